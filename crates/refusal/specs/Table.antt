@@ -1,0 +1,24 @@
+-- A call's refusals as a table: rows of a number and a test, in the order in which they are tried.
+use Prim.Native.Nat.{ℕ, _<_}
+use mathlib.Core.Path.{_≡_}
+use mathlib.Core.Bool.{Bool, true, false, cond}
+use mathlib.Core.List.{List, [], _∷_}
+
+-- a row: the number that is returned, and the test that asks for it
+abbrev pub Row : Type 0
+Row = ℕ × Bool
+
+-- the number of the first row whose test fits, 0 where none does: 0 is 'taken'
+unfoldable pub refusalOf : List Row → ℕ
+refusalOf [] = 0
+refusalOf (r ∷ rs) = cond (r .1) (r .0) (refusalOf rs)
+
+-- no row's test fits
+abbrev pub NoneFits : List Row → Type 0
+NoneFits [] = Unit {0}
+NoneFits (r ∷ rs) = (r .1 ≡ false) × NoneFits rs
+
+-- no row has the number 0, which is kept for 'taken'
+abbrev pub Numbered : List Row → Type 0
+Numbered [] = Unit {0}
+Numbered (r ∷ rs) = (0 < r .0) × Numbered rs

@@ -1,0 +1,18 @@
+-- Tests that several calls make of what they are lent.
+use Prim.Native.Nat.{ℕ}
+use mathlib.Core.Bool.{Bool, true, false, not, _||_}
+use mathlib.Core.List.{List, [], _∷_}
+use lib.Dec.{ltb, eqb}
+
+-- the number x is not one of low, low + 1, .., high
+unfoldable pub outside : ℕ → ℕ → ℕ → Bool
+outside low high x = ltb x low || ltb high x
+
+-- some number of the list is not one of low, low + 1, .., high
+unfoldable pub anyOutside : ℕ → ℕ → List ℕ → Bool
+anyOutside low high [] = false
+anyOutside low high (x ∷ xs) = outside low high x || anyOutside low high xs
+
+-- the two numbers are not equal
+unfoldable pub unequal : ℕ → ℕ → Bool
+unequal a b = not (eqb a b)

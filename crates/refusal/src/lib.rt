@@ -1,0 +1,21 @@
+// Refusals: the tests that several calls share. The table that picks the number is a definition, in specs/Table.antt.
+ghost use mathlib.Core.Path.{_≡_};
+ghost use Rattle.refusal.specs.Tests.{anyOutside};
+
+// Whether some byte of s is below low or above high.
+pub fn any_outside(s: &[u8], low: u8, high: u8) -> bool
+    ensures { λ r. ⌜ r ≡ anyOutside low high (now (s .entry)) ⌝ }
+{
+    let mut i: usize = 0;
+    while i < s.len() {
+        let x = s[i];
+        if x < low {
+            return true;
+        }
+        if high < x {
+            return true;
+        }
+        i += 1;
+    }
+    false
+}
