@@ -1,0 +1,156 @@
+-- The laws of the product, each for all numbers or all symbols.
+use mathlib.Core.Path.{_≡_, refl, sym, ap, ap₂, _∙_, subst}
+use Prim.Native.Nat.{ℕ, zero, suc, _*_, _/_, _%_, _≤_, _<_}
+use native.Mathlib.Nat.{mod-lt, mod-mod, mod-eq-of-lt, zero-lt-suc, zero-mul, one-mul, mul-zero}
+use native.Mathlib.Omega.{arith}
+use lib.Bits.{xor-mod}
+use lib.Dec.{lit<}
+use Rattle.gf64.specs.Field.{_⊕_, _⊙_, timesA, productBits, lowSix, power, inverse, NonZero}
+use Rattle.gf64.proofs.SumLaws.{sum-lt, sum-comm, sum-self, sum-zero, zero-sum, sum-cross, sum-back}
+use Rattle.gf64.proofs.Table.{pair, inverse-at}
+
+-- ---- the six low bits
+
+pub low-lt : (x : ℕ) → lowSix x < 64
+unfolding lowSix
+low-lt x = mod-lt x (zero-lt-suc 63)
+
+pub low-symbol : (x : ℕ) → x < 64 → lowSix x ≡ x
+unfolding lowSix
+low-symbol x h = mod-eq-of-lt h
+
+pub low-sum : (x y : ℕ) → lowSix (x ⊕ y) ≡ lowSix x ⊕ lowSix y
+unfolding lowSix _⊕_
+low-sum x y = xor-mod x y 6
+
+product-bits : (x y : ℕ) → x ⊙ y ≡ productBits 6 (lowSix x) (lowSix y)
+unfolding _⊙_
+product-bits x y = refl
+
+product-low : (x y : ℕ) → x ⊙ y ≡ lowSix x ⊙ lowSix y
+unfolding _⊙_
+product-low x y = ap₂ (productBits 6) (sym (low-symbol (lowSix x) (low-lt x))) (sym (low-symbol (lowSix y) (low-lt y)))
+
+-- ---- closed, commutative
+
+pub product-lt : (x y : ℕ) → x ⊙ y < 64
+product-lt x y = subst (λ (p : ℕ). p < 64) (sym (product-low x y)) (pair (lowSix x) (lowSix y) (low-lt x) (low-lt y) .symbol)
+
+pub product-comm : (x y : ℕ) → x ⊙ y ≡ y ⊙ x
+product-comm x y = product-low x y ∙ pair (lowSix x) (lowSix y) (low-lt x) (low-lt y) .swap ∙ sym (product-low y x)
+
+-- ---- 1 is neutral
+
+bits-zero : (k y : ℕ) → productBits k 0 y ≡ 0
+unfolding productBits timesA
+bits-zero zero y = refl
+bits-zero (suc k) y = ap₂ _⊕_ (ap timesA (bits-zero k y)) (zero-mul y) ∙ sum-zero 0
+
+pub one-product : (x : ℕ) → x < 64 → 1 ⊙ x ≡ x
+unfolding _⊙_ productBits timesA lowSix
+one-product x h =
+    ap (productBits 6 1) (low-symbol x h) ∙ ap₂ _⊕_ (ap timesA (bits-zero 5 x)) (one-mul x) ∙ zero-sum x
+
+-- ---- distributive
+
+-- a bit times a symbol: 0 or the symbol
+pub bit-lt : (b y : ℕ) → b < 2 → y < 64 → b * y < 64
+bit-lt zero y hb hy = subst (λ (p : ℕ). p < 64) (sym (zero-mul y)) (lit< tt)
+bit-lt (suc zero) y hb hy = subst (λ (p : ℕ). p < 64) (sym (one-mul y)) hy
+bit-lt (suc (suc b)) y hb hy = absurd (omega arith)
+
+bit-sum : (b y z : ℕ) → b < 2 → b * (y ⊕ z) ≡ (b * y) ⊕ (b * z)
+bit-sum zero y z h = zero-mul (y ⊕ z) ∙ sym (ap₂ _⊕_ (zero-mul y) (zero-mul z) ∙ sum-zero 0)
+bit-sum (suc zero) y z h = one-mul (y ⊕ z) ∙ sym (ap₂ _⊕_ (one-mul y) (one-mul z))
+bit-sum (suc (suc b)) y z h = absurd (omega arith)
+
+bit : (x : ℕ) → x % 2 < 2
+bit x = mod-lt x (zero-lt-suc 1)
+
+a-lt : (x : ℕ) → x < 64 → timesA x < 64
+a-lt x h = subst (λ (p : ℕ). p < 64) (pair 1 x (lit< tt) h .take-a ∙ ap timesA (one-product x h)) (product-lt (timesA 1) x)
+
+bits-lt : (k x y : ℕ) → y < 64 → productBits k x y < 64
+unfolding productBits
+bits-lt zero x y h = lit< tt
+bits-lt (suc k) x y h = sum-lt (timesA (productBits k (x / 2) y)) (x % 2 * y) (a-lt (productBits k (x / 2) y) (bits-lt k (x / 2) y h)) (bit-lt (x % 2) y (bit x) h)
+
+bits-sum : (k x y z : ℕ) → y < 64 → z < 64 → productBits k x (y ⊕ z) ≡ productBits k x y ⊕ productBits k x z
+unfolding productBits
+bits-sum zero x y z hy hz = sym (sum-zero 0)
+bits-sum (suc k) x y z hy hz =
+    let p = productBits k (x / 2) y in
+    let q = productBits k (x / 2) z in
+    ap₂ _⊕_ (ap timesA (bits-sum k (x / 2) y z hy hz) ∙ pair p q (bits-lt k (x / 2) y hy) (bits-lt k (x / 2) z hz) .sum-a) (bit-sum (x % 2) y z (bit x))
+    ∙ sum-cross (timesA p) (timesA q) (x % 2 * y) (x % 2 * z)
+
+pub product-sum : (x y z : ℕ) → x ⊙ (y ⊕ z) ≡ (x ⊙ y) ⊕ (x ⊙ z)
+unfolding _⊙_
+product-sum x y z = ap (productBits 6 (lowSix x)) (low-sum y z) ∙ bits-sum 6 (lowSix x) (lowSix y) (lowSix z) (low-lt y) (low-lt z)
+
+pub sum-product : (x y z : ℕ) → (x ⊕ y) ⊙ z ≡ (x ⊙ z) ⊕ (y ⊙ z)
+sum-product x y z = product-comm (x ⊕ y) z ∙ product-sum z x y ∙ ap₂ _⊕_ (product-comm z x) (product-comm z y)
+
+-- ---- 0
+
+pub product-zero : (x : ℕ) → x ⊙ 0 ≡ 0
+product-zero x = ap (λ (p : ℕ). x ⊙ p) (sym (sum-zero 0)) ∙ product-sum x 0 0 ∙ sum-self (x ⊙ 0)
+
+pub zero-product : (x : ℕ) → 0 ⊙ x ≡ 0
+zero-product x = product-comm 0 x ∙ product-zero x
+
+-- ---- associative
+
+bit-product : (b y z : ℕ) → b < 2 → (b * y) ⊙ z ≡ b * (y ⊙ z)
+bit-product zero y z h = ap (λ (p : ℕ). p ⊙ z) (zero-mul y) ∙ zero-product z ∙ sym (zero-mul (y ⊙ z))
+bit-product (suc zero) y z h = ap (λ (p : ℕ). p ⊙ z) (one-mul y) ∙ sym (one-mul (y ⊙ z))
+bit-product (suc (suc b)) y z h = absurd (omega arith)
+
+bits-product : (k x y z : ℕ) → y < 64 → z < 64 → productBits k x y ⊙ z ≡ productBits k x (y ⊙ z)
+unfolding productBits
+bits-product zero x y z hy hz = zero-product z
+bits-product (suc k) x y z hy hz =
+    let p = productBits k (x / 2) y in
+    sum-product (timesA p) (x % 2 * y) z
+    ∙ ap₂ _⊕_ (pair p z (bits-lt k (x / 2) y hy) hz .take-a ∙ ap timesA (bits-product k (x / 2) y z hy hz)) (bit-product (x % 2) y z (bit x))
+
+pub product-assoc : (x y z : ℕ) → (x ⊙ y) ⊙ z ≡ x ⊙ (y ⊙ z)
+product-assoc x y z =
+    product-low (x ⊙ y) z
+    ∙ ap (λ (q : ℕ). q ⊙ lowSix z) (low-symbol (x ⊙ y) (product-lt x y) ∙ product-bits x y)
+    ∙ bits-product 6 (lowSix x) (lowSix y) (lowSix z) (low-lt y) (low-lt z)
+    ∙ ap (productBits 6 (lowSix x)) (sym (low-symbol (y ⊙ z) (product-lt y z) ∙ product-low y z))
+    ∙ sym (product-bits x (y ⊙ z))
+
+-- ---- the rule a^6 = a + 1; a is the symbol 2
+
+pub sixth-power : power 2 6 ≡ 3
+unfolding power _⊙_ productBits timesA lowSix _⊕_
+sixth-power = refl
+
+-- ---- the map c ↦ h ⊙ c, for h from 1 to 63
+
+pub inverse-product : (h : ℕ) → NonZero h → inverse h ⊙ h ≡ 1
+inverse-product zero u = absurd (let l = u .positive in omega arith)
+inverse-product (suc h) u = inverse-at h (u .symbol)
+
+pub inverse-nonzero : (h : ℕ) → NonZero h → NonZero (inverse h)
+unfolding inverse power
+inverse-nonzero h u = record { positive = go (inverse h) refl; symbol = product-lt h (power h 61) }
+  where
+    go : (i : ℕ) → inverse h ≡ i → 0 < i
+    go zero e = absurd (let z : _≡_ {A = ℕ} 0 1 = sym (zero-product h) ∙ ap (λ (i : ℕ). i ⊙ h) (sym e) ∙ inverse-product h u in omega arith)
+    go (suc i) e = zero-lt-suc i
+
+-- undone from the left
+pub inverse-undoes : (h c : ℕ) → NonZero h → c < 64 → inverse h ⊙ (h ⊙ c) ≡ c
+inverse-undoes h c u l = sym (product-assoc (inverse h) h c) ∙ ap (λ (p : ℕ). p ⊙ c) (inverse-product h u) ∙ one-product c l
+
+-- and from the right: every symbol c is the product of h and a symbol
+pub undoes-inverse : (h c : ℕ) → NonZero h → c < 64 → h ⊙ (inverse h ⊙ c) ≡ c
+undoes-inverse h c u l =
+    sym (product-assoc h (inverse h) c) ∙ ap (λ (p : ℕ). p ⊙ c) (product-comm h (inverse h) ∙ inverse-product h u) ∙ one-product c l
+
+-- one to one
+pub product-injective : (h c d : ℕ) → NonZero h → c < 64 → d < 64 → h ⊙ c ≡ h ⊙ d → c ≡ d
+product-injective h c d u lc ld e = sym (inverse-undoes h c u lc) ∙ ap (λ (p : ℕ). inverse h ⊙ p) e ∙ inverse-undoes h d u ld

@@ -1,0 +1,82 @@
+-- What holds of all 64 × 64 products, by one computed check over the table.
+use mathlib.Core.Path.{_≡_, subst, sym}
+use mathlib.Core.Bool.{Bool, true, false, _&&_}
+use mathlib.Core.Logic.{_⊎_, inl, inr}
+use Prim.Native.Nat.{ℕ, zero, suc, _<_}
+use native.Mathlib.Nat.{le-of-suc-le-suc, not-suc-le-zero, eq-or-lt-of-le}
+use lib.Dec.{T, ltb, eqb, ltb→lt, eqb→eq}
+use Rattle.gf64.specs.Field.{_⊕_, _⊙_, timesA, productBits, lowSix, power, inverse}
+
+and-left : (a b : Bool) → T (a && b) → T a
+and-left true b t = tt
+and-left false b t = t
+
+and-right : (a b : Bool) → T (a && b) → T b
+and-right true b t = t
+and-right false b t = absurd t
+
+-- the test passes at each number below n
+all : (ℕ → Bool) → ℕ → Bool
+all f zero = true
+all f (suc n) = f n && all f n
+
+all-at : (f : ℕ → Bool) (n : ℕ) → T (all f n) → (k : ℕ) → k < n → T (f k)
+unfolding all
+all-at f zero t k h = absurd (not-suc-le-zero h)
+all-at f (suc n) t k h = go (all-at f n (and-right (f n) (all f n) t)) (eq-or-lt-of-le (le-of-suc-le-suc h))
+  where
+    go : ((j : ℕ) → j < n → T (f j)) → (k ≡ n) ⊎ (k < n) → T (f k)
+    go ih (inl e) = subst (λ (j : ℕ). T (f j)) (sym e) (and-left (f n) (all f n) t)
+    go ih (inr l) = ih k l
+
+-- the test of one pair: x ⊙ y is a symbol, the same as y ⊙ x, a factor a may be taken out of x, and out of a sum
+pairOk : ℕ → ℕ → Bool
+pairOk x y =
+    let p = x ⊙ y in
+    ltb p 64 && (eqb p (y ⊙ x) && (eqb (timesA x ⊙ y) (timesA p) && eqb (timesA (x ⊕ y)) (timesA x ⊕ timesA y)))
+
+rowOk : ℕ → Bool
+unfolding all pairOk
+rowOk x = all (pairOk x) 64
+
+-- the one check over the table
+table : T (all rowOk 64)
+unfolding all rowOk _⊙_ productBits timesA lowSix _⊕_
+table = tt
+
+-- what the check says of one pair
+pub record Pair (x y : ℕ) : Type 0 where
+  pub symbol : x ⊙ y < 64
+  pub swap : x ⊙ y ≡ y ⊙ x
+  pub take-a : timesA x ⊙ y ≡ timesA (x ⊙ y)
+  pub sum-a : timesA (x ⊕ y) ≡ timesA x ⊕ timesA y
+
+-- the check at one pair
+pub pair : (x y : ℕ) → x < 64 → y < 64 → Pair x y
+unfolding rowOk pairOk
+pair x y hx hy =
+    let a = ltb (x ⊙ y) 64 in
+    let b = eqb (x ⊙ y) (y ⊙ x) in
+    let c = eqb (timesA x ⊙ y) (timesA (x ⊙ y)) in
+    let d = eqb (timesA (x ⊕ y)) (timesA x ⊕ timesA y) in
+    let t = all-at (pairOk x) 64 (all-at rowOk 64 table x hx) y hy in
+    let t₁ = and-right a (b && (c && d)) t in
+    let t₂ = and-right b (c && d) t₁ in
+    record {
+      symbol = ltb→lt (x ⊙ y) 64 (and-left a (b && (c && d)) t);
+      swap = eqb→eq (x ⊙ y) (y ⊙ x) (and-left b (c && d) t₁);
+      take-a = eqb→eq (timesA x ⊙ y) (timesA (x ⊙ y)) (and-left c d t₂);
+      sum-a = eqb→eq (timesA (x ⊕ y)) (timesA x ⊕ timesA y) (and-right c d t₂);
+    }
+
+-- each symbol but 0 has an inverse
+inverseOk : ℕ → Bool
+inverseOk x = eqb (inverse (suc x) ⊙ suc x) 1
+
+inverses : T (all inverseOk 63)
+unfolding all inverseOk inverse power _⊙_ productBits timesA lowSix _⊕_
+inverses = tt
+
+pub inverse-at : (x : ℕ) → suc x < 64 → inverse (suc x) ⊙ suc x ≡ 1
+unfolding inverseOk
+inverse-at x h = eqb→eq (inverse (suc x) ⊙ suc x) 1 (all-at inverseOk 63 inverses x (le-of-suc-le-suc h))
