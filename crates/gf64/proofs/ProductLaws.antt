@@ -31,10 +31,45 @@ product-low : (x y : ℕ) → x ⊙ y ≡ lowSix x ⊙ lowSix y
 unfolding _⊙_
 product-low x y = ap₂ (productBits 6) (sym (low-symbol (lowSix x) (low-lt x))) (sym (low-symbol (lowSix y) (low-lt y)))
 
+-- ---- one step of the product
+
+-- a bit times a symbol: 0 or the symbol
+pub bit-lt : (b y : ℕ) → b < 2 → y < 64 → b * y < 64
+bit-lt zero y hb hy = subst (λ (p : ℕ). p < 64) (sym (zero-mul y)) (lit< tt)
+bit-lt (suc zero) y hb hy = subst (λ (p : ℕ). p < 64) (sym (one-mul y)) hy
+bit-lt (suc (suc b)) y hb hy = absurd (omega arith)
+
+bit-sum : (b y z : ℕ) → b < 2 → b * (y ⊕ z) ≡ (b * y) ⊕ (b * z)
+bit-sum zero y z h = zero-mul (y ⊕ z) ∙ sym (ap₂ _⊕_ (zero-mul y) (zero-mul z) ∙ sum-zero 0)
+bit-sum (suc zero) y z h = one-mul (y ⊕ z) ∙ sym (ap₂ _⊕_ (one-mul y) (one-mul z))
+bit-sum (suc (suc b)) y z h = absurd (omega arith)
+
+bit : (x : ℕ) → x % 2 < 2
+bit x = mod-lt x (zero-lt-suc 1)
+
+a-lt : (x : ℕ) → x < 64 → timesA x < 64
+a-lt x h = pair x x h h .a-symbol
+
+a-sum : (x y : ℕ) → x < 64 → y < 64 → timesA (x ⊕ y) ≡ timesA x ⊕ timesA y
+a-sum x y hx hy = pair x y hx hy .a-sum
+
+-- a times a bit times a symbol
+a-bit : (b y : ℕ) → b < 2 → timesA (b * y) ≡ b * timesA y
+unfolding timesA
+a-bit zero y h = ap timesA (zero-mul y) ∙ sym (zero-mul (timesA y))
+a-bit (suc zero) y h = ap timesA (one-mul y) ∙ sym (one-mul (timesA y))
+a-bit (suc (suc b)) y h = absurd (omega arith)
+
+bits-lt : (k x y : ℕ) → y < 64 → productBits k x y < 64
+unfolding productBits
+bits-lt zero x y h = lit< tt
+bits-lt (suc k) x y h = sum-lt (timesA (productBits k (x / 2) y)) (x % 2 * y) (a-lt (productBits k (x / 2) y) (bits-lt k (x / 2) y h)) (bit-lt (x % 2) y (bit x) h)
+
 -- ---- closed, commutative
 
 pub product-lt : (x y : ℕ) → x ⊙ y < 64
-product-lt x y = subst (λ (p : ℕ). p < 64) (sym (product-low x y)) (pair (lowSix x) (lowSix y) (low-lt x) (low-lt y) .symbol)
+unfolding _⊙_
+product-lt x y = bits-lt 6 (lowSix x) (lowSix y) (low-lt y)
 
 pub product-comm : (x y : ℕ) → x ⊙ y ≡ y ⊙ x
 product-comm x y = product-low x y ∙ pair (lowSix x) (lowSix y) (low-lt x) (low-lt y) .swap ∙ sym (product-low y x)
@@ -53,35 +88,13 @@ one-product x h =
 
 -- ---- distributive
 
--- a bit times a symbol: 0 or the symbol
-pub bit-lt : (b y : ℕ) → b < 2 → y < 64 → b * y < 64
-bit-lt zero y hb hy = subst (λ (p : ℕ). p < 64) (sym (zero-mul y)) (lit< tt)
-bit-lt (suc zero) y hb hy = subst (λ (p : ℕ). p < 64) (sym (one-mul y)) hy
-bit-lt (suc (suc b)) y hb hy = absurd (omega arith)
-
-bit-sum : (b y z : ℕ) → b < 2 → b * (y ⊕ z) ≡ (b * y) ⊕ (b * z)
-bit-sum zero y z h = zero-mul (y ⊕ z) ∙ sym (ap₂ _⊕_ (zero-mul y) (zero-mul z) ∙ sum-zero 0)
-bit-sum (suc zero) y z h = one-mul (y ⊕ z) ∙ sym (ap₂ _⊕_ (one-mul y) (one-mul z))
-bit-sum (suc (suc b)) y z h = absurd (omega arith)
-
-bit : (x : ℕ) → x % 2 < 2
-bit x = mod-lt x (zero-lt-suc 1)
-
-a-lt : (x : ℕ) → x < 64 → timesA x < 64
-a-lt x h = subst (λ (p : ℕ). p < 64) (pair 1 x (lit< tt) h .take-a ∙ ap timesA (one-product x h)) (product-lt (timesA 1) x)
-
-bits-lt : (k x y : ℕ) → y < 64 → productBits k x y < 64
-unfolding productBits
-bits-lt zero x y h = lit< tt
-bits-lt (suc k) x y h = sum-lt (timesA (productBits k (x / 2) y)) (x % 2 * y) (a-lt (productBits k (x / 2) y) (bits-lt k (x / 2) y h)) (bit-lt (x % 2) y (bit x) h)
-
 bits-sum : (k x y z : ℕ) → y < 64 → z < 64 → productBits k x (y ⊕ z) ≡ productBits k x y ⊕ productBits k x z
 unfolding productBits
 bits-sum zero x y z hy hz = sym (sum-zero 0)
 bits-sum (suc k) x y z hy hz =
     let p = productBits k (x / 2) y in
     let q = productBits k (x / 2) z in
-    ap₂ _⊕_ (ap timesA (bits-sum k (x / 2) y z hy hz) ∙ pair p q (bits-lt k (x / 2) y hy) (bits-lt k (x / 2) z hz) .sum-a) (bit-sum (x % 2) y z (bit x))
+    ap₂ _⊕_ (ap timesA (bits-sum k (x / 2) y z hy hz) ∙ a-sum p q (bits-lt k (x / 2) y hy) (bits-lt k (x / 2) z hz)) (bit-sum (x % 2) y z (bit x))
     ∙ sum-cross (timesA p) (timesA q) (x % 2 * y) (x % 2 * z)
 
 pub product-sum : (x y z : ℕ) → x ⊙ (y ⊕ z) ≡ (x ⊙ y) ⊕ (x ⊙ z)
@@ -106,13 +119,30 @@ bit-product zero y z h = ap (λ (p : ℕ). p ⊙ z) (zero-mul y) ∙ zero-produc
 bit-product (suc zero) y z h = ap (λ (p : ℕ). p ⊙ z) (one-mul y) ∙ sym (one-mul (y ⊙ z))
 bit-product (suc (suc b)) y z h = absurd (omega arith)
 
+-- a factor a of the second factor comes out
+bits-a : (k x y : ℕ) → y < 64 → productBits k x (timesA y) ≡ timesA (productBits k x y)
+unfolding productBits timesA
+bits-a zero x y h = refl
+bits-a (suc k) x y h =
+    let p = productBits k (x / 2) y in
+    ap₂ _⊕_ (ap timesA (bits-a k (x / 2) y h)) (sym (a-bit (x % 2) y (bit x)))
+    ∙ sym (a-sum (timesA p) (x % 2 * y) (a-lt p (bits-lt k (x / 2) y h)) (bit-lt (x % 2) y (bit x) h))
+
+-- and of the first
+a-product : (x y : ℕ) → x < 64 → timesA x ⊙ y ≡ timesA (x ⊙ y)
+a-product x y h =
+    product-comm (timesA x) y ∙ product-bits y (timesA x)
+    ∙ ap (productBits 6 (lowSix y)) (low-symbol (timesA x) (a-lt x h) ∙ ap timesA (sym (low-symbol x h)))
+    ∙ bits-a 6 (lowSix y) (lowSix x) (low-lt x)
+    ∙ ap timesA (sym (product-bits y x) ∙ product-comm y x)
+
 bits-product : (k x y z : ℕ) → y < 64 → z < 64 → productBits k x y ⊙ z ≡ productBits k x (y ⊙ z)
 unfolding productBits
 bits-product zero x y z hy hz = zero-product z
 bits-product (suc k) x y z hy hz =
     let p = productBits k (x / 2) y in
     sum-product (timesA p) (x % 2 * y) z
-    ∙ ap₂ _⊕_ (pair p z (bits-lt k (x / 2) y hy) hz .take-a ∙ ap timesA (bits-product k (x / 2) y z hy hz)) (bit-product (x % 2) y z (bit x))
+    ∙ ap₂ _⊕_ (a-product p z (bits-lt k (x / 2) y hy) ∙ ap timesA (bits-product k (x / 2) y z hy hz)) (bit-product (x % 2) y z (bit x))
 
 pub product-assoc : (x y z : ℕ) → (x ⊙ y) ⊙ z ≡ x ⊙ (y ⊙ z)
 product-assoc x y z =

@@ -29,11 +29,9 @@ all-at f (suc n) t k h = go (all-at f n (and-right (f n) (all f n) t)) (eq-or-lt
     go ih (inl e) = subst (λ (j : ℕ). T (f j)) (sym e) (and-left (f n) (all f n) t)
     go ih (inr l) = ih k l
 
--- the test of one pair: x ⊙ y is a symbol, the same as y ⊙ x, a factor a may be taken out of x, and out of a sum
+-- the test of one pair: the product is the same both ways round, and a times a symbol is a symbol and distributes over the sum
 pairOk : ℕ → ℕ → Bool
-pairOk x y =
-    let p = x ⊙ y in
-    ltb p 64 && (eqb p (y ⊙ x) && (eqb (timesA x ⊙ y) (timesA p) && eqb (timesA (x ⊕ y)) (timesA x ⊕ timesA y)))
+pairOk x y = eqb (x ⊙ y) (y ⊙ x) && (ltb (timesA x) 64 && eqb (timesA (x ⊕ y)) (timesA x ⊕ timesA y))
 
 rowOk : ℕ → Bool
 unfolding all pairOk
@@ -46,27 +44,22 @@ table = tt
 
 -- what the check says of one pair
 pub record Pair (x y : ℕ) : Type 0 where
-  pub symbol : x ⊙ y < 64
   pub swap : x ⊙ y ≡ y ⊙ x
-  pub take-a : timesA x ⊙ y ≡ timesA (x ⊙ y)
-  pub sum-a : timesA (x ⊕ y) ≡ timesA x ⊕ timesA y
+  pub a-symbol : timesA x < 64
+  pub a-sum : timesA (x ⊕ y) ≡ timesA x ⊕ timesA y
 
 -- the check at one pair
 pub pair : (x y : ℕ) → x < 64 → y < 64 → Pair x y
 unfolding rowOk pairOk
 pair x y hx hy =
-    let a = ltb (x ⊙ y) 64 in
-    let b = eqb (x ⊙ y) (y ⊙ x) in
-    let c = eqb (timesA x ⊙ y) (timesA (x ⊙ y)) in
-    let d = eqb (timesA (x ⊕ y)) (timesA x ⊕ timesA y) in
+    let a = eqb (x ⊙ y) (y ⊙ x) in
+    let b = ltb (timesA x) 64 in
+    let c = eqb (timesA (x ⊕ y)) (timesA x ⊕ timesA y) in
     let t = all-at (pairOk x) 64 (all-at rowOk 64 table x hx) y hy in
-    let t₁ = and-right a (b && (c && d)) t in
-    let t₂ = and-right b (c && d) t₁ in
     record {
-      symbol = ltb→lt (x ⊙ y) 64 (and-left a (b && (c && d)) t);
-      swap = eqb→eq (x ⊙ y) (y ⊙ x) (and-left b (c && d) t₁);
-      take-a = eqb→eq (timesA x ⊙ y) (timesA (x ⊙ y)) (and-left c d t₂);
-      sum-a = eqb→eq (timesA (x ⊕ y)) (timesA x ⊕ timesA y) (and-right c d t₂);
+      swap = eqb→eq (x ⊙ y) (y ⊙ x) (and-left a (b && c) t);
+      a-symbol = ltb→lt (timesA x) 64 (and-left b c (and-right a (b && c) t));
+      a-sum = eqb→eq (timesA (x ⊕ y)) (timesA x ⊕ timesA y) (and-right b c (and-right a (b && c) t));
     }
 
 -- each symbol but 0 has an inverse

@@ -1,0 +1,229 @@
+-- One step of the recursion over halves: what each call is given, and what they leave together.
+use mathlib.Core.Path.{_≡_, refl, sym, ap, ap₂, _∙_, subst}
+use mathlib.Core.List.{List, [], _++_, append-nil}
+use Prim.Native.Nat.{ℕ, zero, suc, _+_, _-_, _*_, _/_, _^_, _≤_, _<_}
+use native.Mathlib.Nat.{le-of-eq, pow-le-pow-right, zero-lt-suc}
+use native.Mathlib.Omega.{arith}
+use lib.ListN.{length, getD, take, drop, length-append, length-drop, take-append-drop, drop-of-length-le, List·getD-append}
+use lib.Pow.{pow-mono}
+use lib.Seq.{take-all, take-at, drop-at, length-take-le, getD-take, getD-drop, getD-append-add}
+use Rattle.gf64.specs.Field.{_⊕_, _⊙_}
+use Rattle.polar.specs.Tree.{Tree, map2, leaves, treeOf, Place, first, second, at, number}
+use Rattle.polar.specs.Halves.{join, transformTree, coefsAt, blockTransform, Room, Block, Halves, Joined}
+use Rattle.polar.proofs.Numbers.{two-pow, half-pow}
+use Rattle.polar.proofs.TreeLaws.{number-lt, map2-at, treeOf-at, leaves-at, leaves-by, leaves-treeOf, length-leaves}
+
+-- ---- a list, a part of which is lent from place h on to its end
+
+-- the part that is lent, as the borrow checker has it
+abbrev pub tail : ℕ → List ℕ → List ℕ
+tail h xs = take (length xs - h) (drop h xs)
+
+-- the whole when the part has come back as ys
+abbrev pub put : ℕ → List ℕ → List ℕ → List ℕ
+put h xs ys = take h xs ++ (ys ++ drop (length xs - h) (drop h xs))
+
+tail-drop : (h : ℕ) (xs : List ℕ) → tail h xs ≡ drop h xs
+tail-drop h xs = take-all (length xs - h) (drop h xs) (le-of-eq (length-drop h xs))
+
+put-append : (h : ℕ) (xs ys : List ℕ) → put h xs ys ≡ take h xs ++ ys
+put-append h xs ys =
+    ap (λ (l : List ℕ). take h xs ++ l)
+    (ap (λ (l : List ℕ). ys ++ l) (drop-of-length-le (drop h xs) (le-of-eq (length-drop h xs))) ∙ append-nil ys)
+
+module _ (h : ℕ) (word a : List ℕ) (la : length a ≡ length (take h word)) (l : h ≤ length word) where
+  front-long : length a ≡ h
+  front-long = la ∙ length-take-le h word l
+
+  pub lent-long : length (a ++ drop h word) ≡ length word
+  lent-long = let e = front-long in length-append a (drop h word) ∙ ap₂ (λ (x y : ℕ). x + y) front-long (length-drop h word) ∙ omega arith
+
+  -- the first half written, the second half is what it was
+  lent-tail : tail h (a ++ drop h word) ≡ drop h word
+  lent-tail = tail-drop h (a ++ drop h word) ∙ drop-at a (drop h word) h front-long
+
+  -- both halves written
+  lent-both : (b : List ℕ) → put h (a ++ drop h word) b ≡ a ++ b
+  lent-both b = put-append h (a ++ drop h word) b ∙ ap (λ (x : List ℕ). x ++ b) (take-at a (drop h word) h front-long)
+
+  pub lent-whole : (b : List ℕ) → length b ≡ length (tail h (a ++ drop h word)) → length (put h (a ++ drop h word) b) ≡ length word
+  lent-whole b lb =
+      let e = front-long in
+      let f = lb ∙ ap length lent-tail ∙ length-drop h word in
+      ap length (lent-both b) ∙ length-append a b ∙ omega arith
+
+-- ---- the step at p + 1 layers, whose halves have 2^p places
+
+module _ (p start stride : ℕ) (cs word : List ℕ) (given : Block (suc p) (2 ^ p) start stride cs word) where
+  half-le : 2 ^ p ≤ length word
+  half-le = let q = two-pow p in let e = given .long in omega arith
+
+  room-join : start + 2 ^ p ≤ length cs
+  unfolding Room
+  room-join = given .room .0
+
+  room-first : Room p (start + stride) stride (length cs)
+  unfolding Room
+  room-first = given .room .1
+
+  room-second : Room p (start + stride + 2 ^ p / 2) stride (length cs)
+  unfolding Room
+  room-second = given .room .2
+
+  first-block : Block p (2 ^ p / 2) (start + stride) stride cs (take (2 ^ p) word)
+  first-block = record {
+    few-layers = (let l = given .few-layers in omega arith);
+    halved = refl;
+    stride-small = given .stride-small;
+    few-coefs = given .few-coefs;
+    room = room-first;
+    long = length-take-le (2 ^ p) word half-le;
+  }
+
+  module _ (a : List ℕ) (la : length a ≡ length (take (2 ^ p) word)) where
+    second-block : Block p (2 ^ p / 2) (start + stride + 2 ^ p / 2) stride cs (tail (2 ^ p) (a ++ drop (2 ^ p) word))
+    second-block = record {
+      few-layers = (let l = given .few-layers in omega arith);
+      halved = refl;
+      stride-small = given .stride-small;
+      few-coefs = given .few-coefs;
+      room = room-second;
+      long = ap length (lent-tail (2 ^ p) word a la half-le) ∙ length-drop (2 ^ p) word ∙ (let q = two-pow p in let e = given .long in omega arith);
+    }
+
+    module _ (b : List ℕ) (lb : length b ≡ length (tail (2 ^ p) (a ++ drop (2 ^ p) word))) where
+      abbrev w : List ℕ
+      w = put (2 ^ p) (a ++ drop (2 ^ p) word) b
+
+      halves : Halves (2 ^ p) start cs w
+      halves = record {
+        few = (let l = pow-mono {i = p} {j = 7} (let m = given .few-layers in omega arith) in omega arith);
+        few-coefs = given .few-coefs;
+        room = room-join;
+        long = lent-whole (2 ^ p) word a la half-le b lb ∙ given .long ∙ two-pow p;
+      }
+
+      module _
+        (ea : a ≡ blockTransform p (start + stride) stride cs (take (2 ^ p) word))
+        (eb : b ≡ blockTransform p (start + stride + 2 ^ p / 2) stride cs (tail (2 ^ p) (a ++ drop (2 ^ p) word)))
+        (after : List ℕ) (lw : length after ≡ length w) (j : Joined (2 ^ p) start cs w after) where
+        A : Tree ℕ p
+        A = transformTree p (coefsAt p (start + stride) stride cs) (treeOf 0 p (take (2 ^ p) word))
+
+        B : Tree ℕ p
+        B = transformTree p (coefsAt p (start + stride + 2 ^ p / 2) stride cs) (treeOf 0 p (drop (2 ^ p) word))
+
+        a-leaves : a ≡ leaves p A
+        unfolding blockTransform A
+        a-leaves = ea
+
+        b-leaves : b ≡ leaves p B
+        unfolding blockTransform B
+        b-leaves =
+            eb ∙ ap (λ (x : List ℕ). leaves p (transformTree p (coefsAt p (start + stride + 2 ^ p / 2) stride cs) (treeOf 0 p x))) (lent-tail (2 ^ p) word a la half-le)
+
+        w-first : (q : Place p) → getD w (number q) 0 ≡ at A q
+        w-first q =
+            ap (λ (x : List ℕ). getD x (number q) 0) (lent-both (2 ^ p) word a la half-le b)
+            ∙ List·getD-append a b 0 (number q) (let l = number-lt q in let e = front-long (2 ^ p) word a la half-le in omega arith)
+            ∙ ap (λ (x : List ℕ). getD x (number q) 0) a-leaves ∙ leaves-at 0 q A
+
+        w-second : (q : Place p) → getD w (2 ^ p + number q) 0 ≡ at B q
+        w-second q =
+            ap (λ (x : List ℕ). getD x (2 ^ p + number q) 0) (lent-both (2 ^ p) word a la half-le b)
+            ∙ ap (λ (x : ℕ). getD (a ++ b) (x + number q) 0) (sym (front-long (2 ^ p) word a la half-le)) ∙ getD-append-add a b (number q) 0
+            ∙ ap (λ (x : List ℕ). getD x (number q) 0) b-leaves ∙ leaves-at 0 q B
+
+        coef : (q : Place p) → getD cs (start + number q) 1 ≡ at (treeOf 1 p (take (2 ^ p) (drop start cs))) q
+        coef q =
+            sym (treeOf-at 1 (take (2 ^ p) (drop start cs)) q ∙ getD-take (2 ^ p) (drop start cs) (number q) 1 (number-lt q) ∙ getD-drop start cs (number q) 1)
+
+        tree : Tree ℕ (suc p)
+        tree = join p (treeOf 1 p (take (2 ^ p) (drop start cs))) A B
+
+        placed : (q : Place (suc p)) → getD after (number q) 0 ≡ at tree q
+        unfolding tree join at number
+        placed (first q) = j .sums (number q) (number-lt q) ∙ ap₂ _⊕_ (w-first q) (w-second q) ∙ sym (map2-at _⊕_ q A B)
+        placed (second q) =
+            j .products (number q) (number-lt q) ∙ ap₂ _⊙_ (coef q) (w-second q) ∙ sym (map2-at _⊙_ q (treeOf 1 p (take (2 ^ p) (drop start cs))) B)
+
+        transformed : after ≡ blockTransform (suc p) start stride cs word
+        unfolding blockTransform transformTree coefsAt treeOf A B tree
+        transformed = leaves-by 0 (suc p) after tree (lw ∙ lent-whole (2 ^ p) word a la half-le b lb ∙ given .long) placed
+
+-- ---- the step at L layers, halves of `half` places
+
+-- what is shown at p + 1 layers, put to use at L layers
+split : (P : ℕ → ℕ → ℕ → Type 0) → ((p : ℕ) → P (suc p) p (2 ^ p)) → (L half : ℕ) → (L ≡ 0 → ⊥) → half ≡ 2 ^ L / 2 → P L (L - 1) half
+split P f zero half ne e = absurd (ne refl)
+split P f (suc p) half ne e =
+    let a : suc p - 1 ≡ p = omega arith in
+    subst (λ (x : ℕ). P (suc p) x half) (sym a) (subst (λ (x : ℕ). P (suc p) p x) (sym (e ∙ half-pow p)) (f p))
+
+-- the sizes that index arithmetic needs
+pub record Sizes (half start : ℕ) (word : List ℕ) : Type 0 where
+  pub few : half ≤ 128
+  pub start-small : start ≤ 1024
+  pub within : half ≤ length word
+
+-- the statements of the step, at L layers, L − 1 = q and halves of h places
+module _ (start stride : ℕ) (cs word : List ℕ) where
+  abbrev HasSizes : ℕ → ℕ → ℕ → Type 0
+  HasSizes L q h = Block L h start stride cs word → Sizes h start word
+
+  abbrev First : ℕ → ℕ → ℕ → Type 0
+  First L q h = Block L h start stride cs word → Block q (h / 2) (start + stride) stride cs (take h word)
+
+  abbrev Second : ℕ → ℕ → ℕ → Type 0
+  Second L q h =
+      Block L h start stride cs word → (a : List ℕ) → length a ≡ length (take h word)
+      → Block q (h / 2) (start + stride + h / 2) stride cs (tail h (a ++ drop h word))
+
+  abbrev Joins : ℕ → ℕ → ℕ → Type 0
+  Joins L q h =
+      Block L h start stride cs word → (a b : List ℕ) → length a ≡ length (take h word) → length b ≡ length (tail h (a ++ drop h word))
+      → Halves h start cs (put h (a ++ drop h word) b)
+
+  abbrev Transformed : ℕ → ℕ → ℕ → Type 0
+  Transformed L q h =
+      Block L h start stride cs word → (a b after : List ℕ) → length a ≡ length (take h word) → length b ≡ length (tail h (a ++ drop h word))
+      → length after ≡ length (put h (a ++ drop h word) b)
+      → a ≡ blockTransform q (start + stride) stride cs (take h word)
+      → b ≡ blockTransform q (start + stride + h / 2) stride cs (tail h (a ++ drop h word))
+      → Joined h start cs (put h (a ++ drop h word) b) after → after ≡ blockTransform L start stride cs word
+
+module _ {L half start stride : ℕ} {cs word : List ℕ} (ne : L ≡ 0 → ⊥) (given : Block L half start stride cs word) where
+  pub at-sizes : Sizes half start word
+  at-sizes = split (HasSizes start stride cs word) (λ p g. record {
+    few = (let l = pow-mono {i = p} {j = 7} (let m = g .few-layers in omega arith) in omega arith);
+    start-small = (let r = room-join p start stride cs word g in let f = g .few-coefs in omega arith);
+    within = half-le p start stride cs word g;
+  }) L half ne (given .halved) given
+
+  pub at-first : Block (L - 1) (half / 2) (start + stride) stride cs (take half word)
+  at-first = split (First start stride cs word) (λ p g. first-block p start stride cs word g) L half ne (given .halved) given
+
+  module _ (a : List ℕ) (la : length a ≡ length (take half word)) where
+    pub at-second : Block (L - 1) (half / 2) (start + stride + half / 2) stride cs (tail half (a ++ drop half word))
+    at-second = split (Second start stride cs word) (λ p g. second-block p start stride cs word g) L half ne (given .halved) given a la
+
+    module _ (b : List ℕ) (lb : length b ≡ length (tail half (a ++ drop half word))) where
+      pub at-joins : Halves half start cs (put half (a ++ drop half word) b)
+      at-joins = split (Joins start stride cs word) (λ p g a b la. halves p start stride cs word g a la b) L half ne (given .halved) given a b la lb
+
+      pub at-transformed : (after : List ℕ) → length after ≡ length (put half (a ++ drop half word) b)
+          → a ≡ blockTransform (L - 1) (start + stride) stride cs (take half word)
+          → b ≡ blockTransform (L - 1) (start + stride + half / 2) stride cs (tail half (a ++ drop half word))
+          → Joined half start cs (put half (a ++ drop half word) b) after → after ≡ blockTransform L start stride cs word
+      at-transformed after =
+          split (Transformed start stride cs word)
+          (λ p g a b after la lb lw ea eb j. transformed p start stride cs word g a la b lb ea eb after lw j) L half ne (given .halved) given a b after la lb
+
+one-place : (start stride : ℕ) (cs word : List ℕ) → length word ≡ 1 → word ≡ blockTransform 0 start stride cs word
+unfolding blockTransform transformTree
+one-place start stride cs word l = sym (leaves-treeOf 0 0 word l)
+
+-- no layer: one place, which stays
+pub at-leaf : {L half start stride : ℕ} {cs word : List ℕ} → L ≡ 0 → Block L half start stride cs word → word ≡ blockTransform L start stride cs word
+at-leaf {L} {half} {start} {stride} {cs} {word} e g =
+    subst (λ (x : ℕ). word ≡ blockTransform x start stride cs word) (sym e) (one-place start stride cs word (g .long ∙ ap (λ (x : ℕ). 2 ^ x) e))

@@ -1,0 +1,10 @@
+pub mod MessageLaws
+pub mod Numbers
+pub mod TreeLaws
+pub mod Kernels
+pub mod LayerLaws
+pub mod ByHalves
+pub mod OneToOne
+pub mod JoinLaws
+pub mod BlockLaws
+pub mod EncodeLaws

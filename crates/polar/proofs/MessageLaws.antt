@@ -1,0 +1,85 @@
+-- The laws of the map: which places hold message symbols, and the word that they make.
+use mathlib.Core.Path.{_≡_, refl, sym, ap, ap₂, _∙_}
+use mathlib.Core.Bool.{Bool, cond}
+use mathlib.Core.List.{List, [], _∷_, _++_}
+use Prim.Native.Nat.{ℕ, zero, suc, _+_, _≤_, _<_}
+use native.Mathlib.Nat.{add-zero}
+use native.Mathlib.Numerals.{add-one}
+use native.Mathlib.Omega.{arith}
+use borrow.Author.Tests.{eq-eqb, ne-eqb}
+use lib.ListN.{length, getD, take, drop, set, length-set}
+use lib.Seq.{drop-cons, drop-drop, getD-drop, take-suc-set, append-snoc}
+use Rattle.polar.specs.Code.{Kind, message, frozen, kindOf, messageCount, messagePlaces}
+use Rattle.polar.specs.Encode.{placed, left, wordBefore}
+
+pub kind-message : (byte : ℕ) → byte ≡ 0 → kindOf byte ≡ message
+unfolding kindOf
+kind-message byte e = ap (λ (t : Bool). cond t message (frozen 0)) (eq-eqb byte 0 e)
+
+pub kind-frozen : (byte : ℕ) → (byte ≡ 0 → ⊥) → kindOf byte ≡ frozen 0
+unfolding kindOf
+kind-frozen byte h = ap (λ (t : Bool). cond t message (frozen 0)) (ne-eqb byte 0 h)
+
+pub length-word : (map symbols : List ℕ) → length (wordBefore map symbols) ≡ length map
+unfolding wordBefore
+length-word [] symbols = refl
+length-word (b ∷ map) symbols = ap suc (length-word map (left (kindOf b) symbols))
+
+-- the map from place i on: the place itself, by its kind, and those after it
+module _ (map : List ℕ) (i : ℕ) (l : i < length map) {k : Kind} (e : kindOf (getD map i 0) ≡ k) where
+  pub places-from : messagePlaces (drop i map) ≡ messageCount k + messagePlaces (drop (suc i) map)
+  unfolding messagePlaces
+  places-from = ap messagePlaces (drop-cons map i 0 l) ∙ ap (λ (x : Kind). messageCount x + messagePlaces (drop (suc i) map)) e
+
+  -- a word that holds the right symbols before place i, with the right one stored there
+  pub word-from : (symbols word : List ℕ) → i < length word
+      → take i word ++ wordBefore (drop i map) symbols
+      ≡ take (suc i) (set word i (placed k symbols)) ++ wordBefore (drop (suc i) map) (left k symbols)
+  unfolding wordBefore
+  word-from symbols word s =
+      ap (λ (x : List ℕ). take i word ++ wordBefore x symbols) (drop-cons map i 0 l)
+      ∙ ap (λ (x : Kind). take i word ++ placed x symbols ∷ wordBefore (drop (suc i) map) (left x symbols)) e
+      ∙ sym (append-snoc (take i word) (placed k symbols) (wordBefore (drop (suc i) map) (left k symbols)))
+      ∙ ap (λ (x : List ℕ). x ++ wordBefore (drop (suc i) map) (left k symbols)) (sym (take-suc-set word i (placed k symbols) s))
+
+-- how far counting has come at place i: k of the places before it are message places
+abbrev pub Counted : (map : List ℕ) (k i : ℕ) → Type 0
+Counted map k i = (i ≤ length map) × (k ≤ i) × (k + messagePlaces (drop i map) ≡ messagePlaces map)
+
+-- one place more
+pub count-more : (map : List ℕ) (k k′ i : ℕ) {kind : Kind} → i < length map → kindOf (getD map i 0) ≡ kind → k′ ≡ k + messageCount kind → messageCount kind ≤ 1
+    → Counted map k i → Counted map k′ (i + 1)
+count-more map k k′ i {kind} l e n s h =
+    let p = places-from map i l e in
+    let q = ap (λ (x : ℕ). messagePlaces (drop x map)) (add-one i) in
+    (omega arith, omega arith, let r = h .2 in omega arith)
+
+-- how far placing has come at place j: the word is right before it, and `next` symbols are used up
+abbrev pub PlacedTo : (map symbols before word : List ℕ) (next j : ℕ) → Type 0
+PlacedTo map symbols before word next j =
+    (j ≤ length map) × (length word ≡ length before) × (next + messagePlaces (drop j map) ≡ length symbols)
+    × (wordBefore map symbols ≡ take j word ++ wordBefore (drop j map) (drop next symbols))
+
+-- one place more
+module _ (map symbols before word : List ℕ) (next j : ℕ) {kind : Kind} (l : j < length map) (s : j < length word) (e : kindOf (getD map j 0) ≡ kind) where
+  pub place-more : (word′ : List ℕ) (next′ : ℕ) → word′ ≡ set word j (placed kind (drop next symbols)) → next′ ≡ next + messageCount kind
+      → left kind (drop next symbols) ≡ drop next′ symbols → PlacedTo map symbols before word next j → PlacedTo map symbols before word′ next′ (j + 1)
+  place-more word′ next′ ew en es h =
+      let p = places-from map j l e in
+      let q = ap (λ (x : ℕ). messagePlaces (drop x map)) (add-one j) in (
+        omega arith,
+        ap length ew ∙ length-set word j (placed kind (drop next symbols)) ∙ h .1,
+        (let r = h .2 in omega arith),
+        h .3 ∙ word-from map j l e (drop next symbols) word s
+            ∙ ap₂ (λ (w x : List ℕ). take (suc j) w ++ wordBefore (drop (suc j) map) x) (sym ew) es
+            ∙ ap (λ (x : ℕ). take x word′ ++ wordBefore (drop x map) (drop next′ symbols)) (sym (add-one j)),
+      )
+
+-- the next symbol of those that are left
+pub next-placed : (symbols : List ℕ) (next : ℕ) → placed message (drop next symbols) ≡ getD symbols next 0
+unfolding placed
+next-placed symbols next = getD-drop next symbols 0 0 ∙ ap (λ (x : ℕ). getD symbols x 0) (add-zero next)
+
+pub next-left : (symbols : List ℕ) (next : ℕ) → left message (drop next symbols) ≡ drop (next + 1) symbols
+unfolding left
+next-left symbols next = drop-drop 1 next symbols

@@ -1,0 +1,56 @@
+-- Facts about numbers and lists that the proofs here share.
+use mathlib.Core.Path.{_≡_, refl, sym, ap, _∙_}
+use mathlib.Core.Logic.{_⊎_, inl, inr}
+use mathlib.Core.List.{List, [], _∷_}
+use Prim.Native.Nat.{ℕ, zero, suc, _+_, _*_, _/_, _^_, _≤_, _<_}
+use native.Mathlib.Nat.{pow-suc, le-of-suc-le-suc, not-suc-le-zero}
+use native.Mathlib.Decide.{decLt}
+use native.Mathlib.Omega.{arith}
+use lib.ListN.{length, getD, set, length-set}
+use lib.Pow.{pow-add}
+use lib.Seq.{getD-set-same, getD-set-other}
+
+-- a word of one layer more is twice as long
+pub two-pow : (m : ℕ) → 2 ^ suc m ≡ 2 ^ m + 2 ^ m
+two-pow m = let e = pow-suc 2 m in omega arith
+
+pub half-pow : (m : ℕ) → 2 ^ suc m / 2 ≡ 2 ^ m
+half-pow m = let e = two-pow m in omega arith
+
+-- N places, in 2^d blocks of 2 × 2^m places each
+pub whole : (n d m : ℕ) → d + suc m ≡ n → 2 ^ n ≡ 2 ^ d * (2 ^ m + 2 ^ m)
+whole n d m e = ap (λ (x : ℕ). 2 ^ x) (sym e) ∙ pow-add 2 d (suc m) ∙ ap (λ (x : ℕ). 2 ^ d * x) (two-pow m)
+
+-- and N/2 kernels, 2^m to a block
+pub half-blocks : (n d m : ℕ) → d + suc m ≡ n → 2 ^ n / 2 ≡ 2 ^ d * 2 ^ m
+half-blocks n d m e = let q = whole n d m e in omega arith
+
+pub lt-or-le : (a b : ℕ) → (a < b) ⊎ (b ≤ a)
+lt-or-le a b = go (decLt a b)
+  where
+    go : Dec (a < b) → (a < b) ⊎ (b ≤ a)
+    go (yes l) = inl l
+    go (no h) = inr (omega arith)
+
+-- within a list the default is not looked at
+pub getD-any : (xs : List ℕ) (i d e : ℕ) → i < length xs → getD xs i d ≡ getD xs i e
+getD-any [] i d e l = absurd (not-suc-le-zero l)
+getD-any (x ∷ xs) zero d e l = refl
+getD-any (x ∷ xs) (suc i) d e l = getD-any xs i d e (le-of-suc-le-suc l)
+
+-- two places of a list stored to
+module _ (xs : List ℕ) (i j x y : ℕ) (li : i < length xs) (lj : j < length xs) (ne : i < j) where
+  abbrev both : List ℕ
+  both = set (set xs i x) j y
+
+  pub both-long : length both ≡ length xs
+  both-long = length-set (set xs i x) j y ∙ length-set xs i x
+
+  pub both-first : getD both i 0 ≡ x
+  both-first = getD-set-other (set xs i x) j i y 0 (λ q. absurd (omega arith)) ∙ getD-set-same xs i x 0 li
+
+  pub both-second : getD both j 0 ≡ y
+  both-second = getD-set-same (set xs i x) j y 0 (let e = length-set xs i x in omega arith)
+
+  pub both-other : (k : ℕ) → (k ≡ i → ⊥) → (k ≡ j → ⊥) → getD both k 0 ≡ getD xs k 0
+  both-other k a b = getD-set-other (set xs i x) j k y 0 b ∙ getD-set-other xs i k x 0 a

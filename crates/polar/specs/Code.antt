@@ -1,0 +1,48 @@
+-- The code: n layers, a frozen map with a byte for each of the N = 2^n places, and a coefficient for each of the n × N/2 kernels;
+-- with the rows of document 01's table 'Refused' that judge a code, for every call that is given one.
+use Prim.Native.Nat.{ℕ, _+_, _*_, _/_, _^_}
+use mathlib.Core.Bool.{cond}
+use mathlib.Core.List.{List, [], _∷_}
+use lib.Dec.{eqb}
+use lib.ListN.{length}
+use Rattle.refusal.specs.Table.{Row}
+use Rattle.refusal.specs.Tests.{outside, anyOutside, unequal}
+
+-- what a place before the transform holds: a message symbol, or always the same symbol
+pub data Kind : Type 0 where
+  message : Kind
+  frozen : ℕ → Kind
+
+-- the kind of a place by its map byte: 0 is a message place, any other byte a frozen place, which holds 0
+unfoldable pub kindOf : ℕ → Kind
+kindOf byte = cond (eqb byte 0) message (frozen 0)
+
+-- 1 for a message place
+unfoldable pub messageCount : Kind → ℕ
+messageCount message = 1
+messageCount (frozen s) = 0
+
+-- document 01's K: how many places of the map are message places
+unfoldable pub messagePlaces : List ℕ → ℕ
+messagePlaces [] = 0
+messagePlaces (byte ∷ map) = messageCount (kindOf byte) + messagePlaces map
+
+-- 1: n outside 1 to 8
+abbrev pub layersRow : ℕ → Row
+layersRow n = (1, outside 1 8 n)
+
+-- 2: a slice has a length other than needed
+abbrev pub lengthRow : List ℕ → ℕ → Row
+lengthRow xs needed = (2, unequal (length xs) needed)
+
+-- 4: a map byte above 1
+abbrev pub mapRow : List ℕ → Row
+mapRow map = (4, anyOutside 0 1 map)
+
+-- 5: K is 0
+abbrev pub emptyRow : List ℕ → Row
+emptyRow map = (5, eqb (messagePlaces map) 0)
+
+-- 6: a coefficient 0 or above 63
+abbrev pub coefsRow : List ℕ → Row
+coefsRow cs = (6, anyOutside 1 63 cs)

@@ -1,0 +1,62 @@
+-- What `encode` promises.
+use Prim.Native.Nat.{ℕ, _*_, _/_, _^_}
+use mathlib.Core.Path.{_≡_}
+use mathlib.Core.Bool.{cond}
+use mathlib.Core.List.{List, [], _∷_}
+use lib.Dec.{eqb}
+use lib.ListN.{getD, drop}
+use Rattle.refusal.specs.Table.{Row, refusalOf}
+use Rattle.refusal.specs.Tests.{anyOutside}
+use Rattle.polar.specs.Code.{Kind, message, frozen, kindOf, messagePlaces, layersRow, lengthRow, mapRow, emptyRow, coefsRow}
+use Rattle.polar.specs.Transform.{transform}
+
+-- what a place of a kind holds: the next message symbol, or its own
+unfoldable pub placed : Kind → List ℕ → ℕ
+placed message symbols = getD symbols 0 0
+placed (frozen s) symbols = s
+
+-- the message symbols that are left after a place of a kind
+unfoldable pub left : Kind → List ℕ → List ℕ
+left message symbols = drop 1 symbols
+left (frozen s) symbols = symbols
+
+-- the word before the transform: the message symbols fill the message places in rising order
+unfoldable pub wordBefore : List ℕ → List ℕ → List ℕ
+wordBefore [] symbols = []
+wordBefore (byte ∷ map) symbols = placed (kindOf byte) symbols ∷ wordBefore map (left (kindOf byte) symbols)
+
+-- the codeword of a message: the transform of the word before it
+unfoldable pub codewordOf : (n : ℕ) → List ℕ → List ℕ → List ℕ → List ℕ
+codewordOf n map cs symbols = transform n cs (wordBefore map symbols)
+
+-- 7: a symbol to encode above 63
+abbrev pub symbolsRow : List ℕ → Row
+symbolsRow symbols = (7, anyOutside 0 63 symbols)
+
+-- the rows of document 01's table that `encode` has the input for, in its order
+abbrev pub encodeTable : (n : ℕ) → List ℕ → List ℕ → List ℕ → List ℕ → List Row
+encodeTable n map cs symbols buffer =
+    layersRow n
+    ∷ lengthRow map (2 ^ n)
+    ∷ lengthRow cs (n * (2 ^ n / 2))
+    ∷ lengthRow symbols (messagePlaces map)
+    ∷ lengthRow buffer (2 ^ n)
+    ∷ mapRow map
+    ∷ emptyRow map
+    ∷ coefsRow cs
+    ∷ symbolsRow symbols
+    ∷ []
+
+-- the number that `encode` returns, 0 where it takes its input
+unfoldable pub encodeRefusal : (n : ℕ) → List ℕ → List ℕ → List ℕ → List ℕ → ℕ
+encodeRefusal n map cs symbols buffer = refusalOf (encodeTable n map cs symbols buffer)
+
+-- what the lent buffer holds afterwards: the codeword, or on a refusal what it held
+unfoldable pub encodeBuffer : (n : ℕ) → List ℕ → List ℕ → List ℕ → List ℕ → List ℕ
+encodeBuffer n map cs symbols buffer =
+    cond (eqb (encodeRefusal n map cs symbols buffer) 0) (codewordOf n map cs symbols) buffer
+
+-- the promise: the answer r and the buffer at exit, for every input
+pub record Encoded (n : ℕ) (map cs symbols buffer after : List ℕ) (r : ℕ) : Type 0 where
+  pub answer : r ≡ encodeRefusal n map cs symbols buffer
+  pub codeword : after ≡ encodeBuffer n map cs symbols buffer

@@ -1,0 +1,5 @@
+pub mod Code
+pub mod Transform
+pub mod Encode
+pub mod Tree
+pub mod Halves

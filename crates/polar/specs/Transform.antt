@@ -1,0 +1,41 @@
+-- The polar transform in document 01's own indices: layer n first, layer 1 last; kernel by kernel in each layer.
+use Prim.Native.Nat.{ℕ, zero, suc, _+_, _*_, _/_, _%_, _-_, _^_}
+use mathlib.Core.List.{List}
+use lib.ListN.{getD, set}
+use Rattle.gf64.specs.Field.{_⊕_, _⊙_}
+
+-- the places that kernel t of layer l joins, θ and φ
+unfoldable pub theta : (n l t : ℕ) → ℕ
+theta n l t = 2 * t - t % 2 ^ (n - l)
+
+unfoldable pub phi : (n l t : ℕ) → ℕ
+phi n l t = theta n l t + 2 ^ (n - l)
+
+-- the coefficient h of kernel t of layer l (a code that is taken has it; the 1 is never reached)
+unfoldable pub coefficient : (n l t : ℕ) → List ℕ → ℕ
+coefficient n l t cs = getD cs ((l - 1) * (2 ^ n / 2) + t) 1
+
+-- one kernel: (p, r) at θ and φ becomes (p ⊕ r, h ⊙ r)
+unfoldable pub kernel : (n l t : ℕ) → List ℕ → List ℕ → List ℕ
+kernel n l t cs x =
+    let p = getD x (theta n l t) 0 in
+    let r = getD x (phi n l t) 0 in
+    set (set x (theta n l t) (p ⊕ r)) (phi n l t) (coefficient n l t cs ⊙ r)
+
+-- the kernels 0 to k − 1 of layer l
+unfoldable pub kernels : (n l k : ℕ) → List ℕ → List ℕ → List ℕ
+kernels n l zero cs x = x
+kernels n l (suc t) cs x = kernel n l t cs (kernels n l t cs x)
+
+-- layer l: all its N/2 kernels
+unfoldable pub layer : (n l : ℕ) → List ℕ → List ℕ → List ℕ
+layer n l cs x = kernels n l (2 ^ n / 2) cs x
+
+-- the first k layers in the order of encoding: n, n − 1, .., n − k + 1
+unfoldable pub layers : (n k : ℕ) → List ℕ → List ℕ → List ℕ
+layers n zero cs u = u
+layers n (suc k) cs u = layer n (n - k) cs (layers n k cs u)
+
+-- the transform of a word u of N symbols: all n layers
+unfoldable pub transform : ℕ → List ℕ → List ℕ → List ℕ
+transform n cs u = layers n n cs u

@@ -1,0 +1,69 @@
+// The encoder: a message to its codeword.
+use crate::places::message_places;
+use crate::places::place_message;
+use crate::transform::transform_block;
+ghost use mathlib.Core.Path.{_≡_};
+ghost use Prim.Native.Nat.{_^_, _≤_};
+ghost use Rattle.polar.specs.Encode.{encodeRefusal, Encoded};
+
+// The number of places of a word with n layers.
+fn word_length(n: usize) -> usize
+    requires { ⌜ n ≤ 8 ⌝ }
+    ensures { λ r. ⌜ r ≡ 2 ^ n ⌝ }
+{
+    1 << n
+}
+
+// The number by which `encode` refuses, 0 where it takes its input: the first test that fits, in document 01's order.
+fn encode_refusal(n: usize, map: &[u8], coefs: &[u8], message: &[u8], codeword: &[u8]) -> u8
+    ensures { λ r. ⌜ r ≡ encodeRefusal n (now (map .entry)) (now (coefs .entry)) (now (message .entry)) (now (codeword .entry)) ⌝ }
+{
+    if n < 1 {
+        return 1;
+    }
+    if 8 < n {
+        return 1;
+    }
+    let size = word_length(n);
+    if map.len() != size {
+        return 2;
+    }
+    if coefs.len() != n * (size / 2) {
+        return 2;
+    }
+    let places = message_places(map);
+    if message.len() != places {
+        return 2;
+    }
+    if codeword.len() != size {
+        return 2;
+    }
+    if refusal::any_outside(map, 0, 1) {
+        return 4;
+    }
+    if places == 0 {
+        return 5;
+    }
+    if refusal::any_outside(coefs, 1, 63) {
+        return 6;
+    }
+    if refusal::any_outside(message, 0, 63) {
+        return 7;
+    }
+    0
+}
+
+// Encodes a message: its symbols fill the message places of the map, and the transform by n layers turns that word into the codeword.
+// Returns 0 and the codeword in the buffer lent for it; or the lowest refusal of 1, 2, 4, 5, 6 and 7 that fits, and the buffer as it came.
+pub fn encode(n: usize, map: &[u8], coefs: &[u8], message: &[u8], codeword: &mut [u8]) -> u8
+    ensures { λ r. ⌜ Encoded n (now (map .entry)) (now (coefs .entry)) (now (message .entry)) (now (codeword .entry)) (now (codeword .exit)) r ⌝ }
+{
+    let refused = encode_refusal(n, map, coefs, message, codeword);
+    if refused != 0 {
+        return refused;
+    }
+    let half = map.len() / 2;
+    place_message(map, message, codeword);
+    transform_block(n, half, 0, half, coefs, codeword);
+    0
+}

@@ -1,0 +1,7 @@
+// The polar code over GF(64): the code, the transform by halves and the encoder.
+mod encoder;
+mod places;
+mod transform;
+
+pub use encoder::encode;
+pub use places::message_places;

@@ -1,0 +1,44 @@
+// The transform of a word in place, by halves.
+ghost use mathlib.Core.Path.{_≡_};
+ghost use Rattle.polar.specs.Halves.{Block, Halves, Joined, blockTransform};
+
+// The kernels that join the two halves of a word: kernel t has the places t and half + t, and coefficient start + t.
+pub(crate) fn join_halves(half: usize, start: usize, coefs: &[u8], word: &mut [u8])
+    requires { ⌜ Halves half start (now coefs) (now word) ⌝ }
+    ensures { λ _. ⌜ Joined half start (now (coefs .entry)) (now (word .entry)) (now (word .exit)) ⌝ }
+{
+    let mut t: usize = 0;
+    while t < half {
+        let theta = t;
+        let phi = half + t;
+        let p = word[theta];
+        let r = word[phi];
+        word[theta] = p ^ r;
+        word[phi] = gf64::product(coefs[start + t], r);
+        t += 1;
+    }
+}
+
+// The transform of a block of 2^layers places, half of them in each half: first each half by itself, one layer less, then the
+// kernels that join them. Those have their coefficients from start on, the next layer's come stride further on.
+pub(crate) fn transform_block(
+    layers: usize,
+    half: usize,
+    start: usize,
+    stride: usize,
+    coefs: &[u8],
+    word: &mut [u8],
+)
+    requires { ⌜ Block layers half start stride (now coefs) (now word) ⌝ }
+    ensures { λ _. ⌜ now (word .exit) ≡ blockTransform layers start stride (now (coefs .entry)) (now (word .entry)) ⌝ }
+{
+    if layers == 0 {
+        return;
+    }
+    let quarter = half / 2;
+    let first = start + stride;
+    let second = first + quarter;
+    transform_block(layers - 1, quarter, first, stride, coefs, &mut word[..half]);
+    transform_block(layers - 1, quarter, second, stride, coefs, &mut word[half..]);
+    join_halves(half, start, coefs, word);
+}
