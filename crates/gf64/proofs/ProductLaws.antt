@@ -1,12 +1,12 @@
 -- The laws of the product, each for all numbers or all symbols.
 use mathlib.Core.Path.{_≡_, refl, sym, ap, ap₂, _∙_, subst}
-use Prim.Native.Nat.{ℕ, zero, suc, _*_, _/_, _%_, _≤_, _<_}
-use native.Mathlib.Nat.{mod-lt, mod-mod, mod-eq-of-lt, zero-lt-suc, zero-mul, one-mul, mul-zero}
+use Prim.Native.Nat.{ℕ, zero, suc, _*_, _/_, _%_, _<_}
+use native.Mathlib.Nat.{mod-lt, mod-eq-of-lt, zero-lt-suc, zero-mul, one-mul}
 use native.Mathlib.Omega.{arith}
 use lib.Bits.{xor-mod}
 use lib.Dec.{lit<}
 use Rattle.gf64.specs.Field.{_⊕_, _⊙_, timesA, productBits, lowSix, power, inverse, NonZero}
-use Rattle.gf64.proofs.SumLaws.{sum-lt, sum-comm, sum-self, sum-zero, zero-sum, sum-cross, sum-back}
+use Rattle.gf64.proofs.SumLaws.{sum-lt, sum-self, sum-zero, zero-sum, sum-cross}
 use Rattle.gf64.proofs.Table.{pair, inverse-at}
 
 -- ---- the six low bits

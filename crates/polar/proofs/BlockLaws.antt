@@ -1,17 +1,18 @@
 -- One step of the recursion over halves: what each call is given, and what they leave together.
 use mathlib.Core.Path.{_≡_, refl, sym, ap, ap₂, _∙_, subst}
-use mathlib.Core.List.{List, [], _++_, append-nil}
-use Prim.Native.Nat.{ℕ, zero, suc, _+_, _-_, _*_, _/_, _^_, _≤_, _<_}
-use native.Mathlib.Nat.{le-of-eq, pow-le-pow-right, zero-lt-suc}
+use mathlib.Core.List.{List, _++_, append-nil}
+use Prim.Native.Nat.{ℕ, zero, suc, _+_, _-_, _/_, _^_, _≤_}
+use native.Mathlib.Nat.{le-of-eq}
 use native.Mathlib.Omega.{arith}
-use lib.ListN.{length, getD, take, drop, length-append, length-drop, take-append-drop, drop-of-length-le, List·getD-append}
+use lib.ListN.{length, getD, take, drop, length-append, length-drop, drop-of-length-le, List·getD-append}
 use lib.Pow.{pow-mono}
 use lib.Seq.{take-all, take-at, drop-at, length-take-le, getD-take, getD-drop, getD-append-add}
 use Rattle.gf64.specs.Field.{_⊕_, _⊙_}
-use Rattle.polar.specs.Tree.{Tree, map2, leaves, treeOf, Place, first, second, at, number}
-use Rattle.polar.specs.Halves.{join, transformTree, coefsAt, blockTransform, Room, Block, Halves, Joined}
+use Rattle.polar.specs.Tree.{Tree, leaves, treeOf, Place, first, second, at, number}
+use Rattle.polar.specs.Halves.{join, transformTree, coefsAt, blockTransform}
+use Rattle.polar.specs.Parts.{Room, Block, Halves, Joined}
 use Rattle.polar.proofs.Numbers.{two-pow, half-pow}
-use Rattle.polar.proofs.TreeLaws.{number-lt, map2-at, treeOf-at, leaves-at, leaves-by, leaves-treeOf, length-leaves}
+use Rattle.polar.proofs.TreeLaws.{number-lt, map2-at, treeOf-at, leaves-at, leaves-by, leaves-treeOf}
 
 -- ---- a list, a part of which is lent from place h on to its end
 
@@ -104,9 +105,9 @@ module _ (p start stride : ℕ) (cs word : List ℕ) (given : Block (suc p) (2 ^
       }
 
       module _
-        (ea : a ≡ blockTransform p (start + stride) stride cs (take (2 ^ p) word))
-        (eb : b ≡ blockTransform p (start + stride + 2 ^ p / 2) stride cs (tail (2 ^ p) (a ++ drop (2 ^ p) word)))
-        (after : List ℕ) (lw : length after ≡ length w) (j : Joined (2 ^ p) start cs w after) where
+          (ea : a ≡ blockTransform p (start + stride) stride cs (take (2 ^ p) word))
+          (eb : b ≡ blockTransform p (start + stride + 2 ^ p / 2) stride cs (tail (2 ^ p) (a ++ drop (2 ^ p) word)))
+          (after : List ℕ) (lw : length after ≡ length w) (j : Joined (2 ^ p) start cs w after) where
         A : Tree ℕ p
         A = transformTree p (coefsAt p (start + stride) stride cs) (treeOf 0 p (take (2 ^ p) word))
 

@@ -7,10 +7,10 @@ use native.Mathlib.Omega.{arith}
 use lib.ListN.{length, getD, take, drop}
 use lib.Seq.{getD-take, getD-drop}
 use Rattle.gf64.specs.Field.{_⊕_, _⊙_}
-use Rattle.polar.specs.Transform.{theta, phi, coefficient, layer, layers, transform}
-use Rattle.polar.specs.Tree.{Tree, map2, leaves, treeOf, Place, here, first, second, at, number}
+use Rattle.polar.specs.Transform.{phi, coefficient, layer, layers, transform}
+use Rattle.polar.specs.Tree.{Tree, map2, treeOf, Place, here, first, second, at, number}
 use Rattle.polar.specs.Halves.{join, transformTree, coefsAt, blockTransform}
-use Rattle.polar.proofs.Numbers.{two-pow, whole, half-blocks}
+use Rattle.polar.proofs.Numbers.{two-pow}
 use Rattle.polar.proofs.TreeLaws.{number-lt, map2-at, ext-at, treeOf-at, leaves-by}
 use Rattle.polar.proofs.Kernels.{theta-is, phi-is}
 use Rattle.polar.proofs.LayerLaws.{layer-turned, layers-long}
@@ -58,7 +58,7 @@ module _ (n d m w : ℕ) (e : d + suc m ≡ n) (fits : w * (2 ^ m + 2 ^ m) + (2 
     unfolding coefficient
     coefs p =
         let a : (suc d - 1) * (2 ^ n / 2) + (w * 2 ^ m + number p) ≡ start + number p
-                = ap (λ (k : ℕ). k * (2 ^ n / 2) + (w * 2 ^ m + number p)) (less d) ∙ omega arith in
+        = ap (λ (k : ℕ). k * (2 ^ n / 2) + (w * 2 ^ m + number p)) (less d) ∙ omega arith in
         ap (λ (j : ℕ). getD cs j 1) a
         ∙ sym (treeOf-at 1 (take (2 ^ m) (drop start cs)) p ∙ getD-take (2 ^ m) (drop start cs) (number p) 1 (number-lt p) ∙ getD-drop start cs (number p) 1)
       where
@@ -88,9 +88,9 @@ module _ (n : ℕ) (cs u : List ℕ) (long : length u ≡ 2 ^ n) where
       let l : n - m ≡ suc d = omega arith in
       let o₁ : o ≡ w * (2 ^ m + 2 ^ m) = eo ∙ ap (λ (k : ℕ). w * k) q in
       let s = subst (λ (k : ℕ). window m k (layer n (suc d) cs x) ≡ map2 m _⊕_ (window m k x) (window m (k + 2 ^ m) x)) (sym o₁)
-              (sums n d m w e (omega arith) cs x lx) in
+      (sums n d m w e (omega arith) cs x lx) in
       let t = subst (λ (k : ℕ). window m (k + 2 ^ m) (layer n (suc d) cs x) ≡ map2 m _⊙_ (treeOf 1 m (take (2 ^ m) (drop start cs))) (window m (k + 2 ^ m) x)) (sym o₁)
-              (products n d m w e (omega arith) cs x lx start (omega arith)) in
+      (products n d m w e (omega arith) cs x lx start (omega arith)) in
       let a = block m (suc d) (w * 2) o (start + 2 ^ n / 2) (omega arith) (omega arith) (omega arith) (omega arith) in
       let b = block m (suc d) (w * 2 + 1) (o + 2 ^ m) (start + 2 ^ n / 2 + 2 ^ m / 2) (omega arith) (omega arith) (omega arith) (omega arith) in
       ap (λ (k : ℕ). window (suc m) o (layer n k cs x)) l
@@ -101,7 +101,7 @@ module _ (n : ℕ) (cs u : List ℕ) (long : length u ≡ 2 ^ n) where
   unfolding transform blockTransform
   by-halves =
       let tree : treeOf 0 n u ≡ window n 0 u
-              = ext-at n (treeOf 0 n u) (window n 0 u) (λ p. treeOf-at 0 u p ∙ sym (window-at p 0 u ∙ ap (λ (j : ℕ). getD u j 0) (zero-add (number p)))) in
+      = ext-at n (treeOf 0 n u) (window n 0 u) (λ p. treeOf-at 0 u p ∙ sym (window-at p 0 u ∙ ap (λ (j : ℕ). getD u j 0) (zero-add (number p)))) in
       let same = block n 0 0 0 0 (zero-add n) (omega arith) (omega arith) (omega arith) in
       leaves-by 0 n (layers n n cs u) (transformTree n (coefsAt n 0 (2 ^ n / 2) cs) (treeOf 0 n u)) (layers-long n n cs u ∙ long) (λ p.
       ap (λ (j : ℕ). getD (layers n n cs u) j 0) (sym (zero-add (number p))) ∙ sym (window-at p 0 (layers n n cs u))

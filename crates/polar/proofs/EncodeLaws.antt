@@ -9,15 +9,14 @@ use borrow.Author.Tests.{eq-eqb, ne-eqb, eqb-false}
 use lib.Dec.{lit<}
 use lib.ListN.{length, getD}
 use lib.Pow.{pow-mono}
-use Rattle.refusal.specs.Table.{NoneFits, Numbered}
+use Rattle.refusal.specs.Table.{Numbered}
 use Rattle.refusal.proofs.Laws.{taken-none, none-taken}
 use Rattle.refusal.proofs.Within.{Within, inside-within, within-inside, none-within, within-none, false-equal, equal-false}
-use Rattle.gf64.specs.Field.{NonZero}
 use Rattle.polar.specs.Code.{messagePlaces}
-use Rattle.polar.specs.Transform.{transform}
 use Rattle.polar.specs.Encode.{wordBefore, codewordOf, encodeTable, encodeRefusal, encodeBuffer}
-use Rattle.polar.specs.Halves.{Room, Block, Placing, blockTransform}
-use Rattle.polar.proofs.Numbers.{two-pow, half-pow}
+use Rattle.polar.specs.Halves.{blockTransform}
+use Rattle.polar.specs.Parts.{Room, Block, Placing}
+use Rattle.polar.proofs.Numbers.{half-pow}
 use Rattle.polar.proofs.MessageLaws.{length-word}
 use Rattle.polar.proofs.ByHalves.{by-halves}
 
@@ -58,16 +57,31 @@ module _ (n : ℕ) (map cs symbols buffer : List ℕ) where
   pub takes : Taken n map cs symbols buffer → encodeRefusal n map cs symbols buffer ≡ 0
   unfolding encodeRefusal
   takes t =
-      none-taken (encodeTable n map cs symbols buffer)
-      (within-inside 1 8 n (t .layers),
-      (equal-false (length map) (2 ^ n) (t .map-long),
-      (equal-false (length cs) (n * (2 ^ n / 2)) (t .coefs-long),
-      (equal-false (length symbols) (messagePlaces map) (t .message-long),
-      (equal-false (length buffer) (2 ^ n) (t .buffer-long),
-      (within-none 0 1 0 map (t .map-bytes),
-      (ne-eqb (messagePlaces map) 0 (t .some-message),
-      (within-none 1 63 1 cs (t .coefs),
-      (within-none 0 63 0 symbols (t .message-symbols), tt)))))))))
+      none-taken (encodeTable n map cs symbols buffer) (
+        within-inside 1 8 n (t .layers),
+        (
+          equal-false (length map) (2 ^ n) (t .map-long),
+          (
+            equal-false (length cs) (n * (2 ^ n / 2)) (t .coefs-long),
+            (
+              equal-false (length symbols) (messagePlaces map) (t .message-long),
+              (
+                equal-false (length buffer) (2 ^ n) (t .buffer-long),
+                (
+                  within-none 0 1 0 map (t .map-bytes),
+                  (
+                    ne-eqb (messagePlaces map) 0 (t .some-message),
+                    (
+                      within-none 1 63 1 cs (t .coefs),
+                      (within-none 0 63 0 symbols (t .message-symbols), tt),
+                    ),
+                  ),
+                ),
+              ),
+            ),
+          ),
+        ),
+      )
 
   -- the buffer where the input is taken, and where it is refused
   pub buffer-taken : encodeRefusal n map cs symbols buffer ≡ 0 → encodeBuffer n map cs symbols buffer ≡ codewordOf n map cs symbols

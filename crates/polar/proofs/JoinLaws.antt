@@ -1,12 +1,12 @@
 -- How the loop over the kernels that join two halves goes on.
-use mathlib.Core.Path.{_≡_, refl, sym, ap, ap₂, _∙_, subst}
+use mathlib.Core.Path.{_≡_, ap₂, _∙_, subst}
 use mathlib.Core.Logic.{_⊎_, inl, inr}
 use mathlib.Core.List.{List}
 use Prim.Native.Nat.{ℕ, _+_, _≤_, _<_}
 use native.Mathlib.Omega.{arith}
 use lib.ListN.{length, getD, set}
 use Rattle.gf64.specs.Field.{_⊕_, _⊙_}
-use Rattle.polar.specs.Halves.{Halves}
+use Rattle.polar.specs.Parts.{Halves}
 use Rattle.polar.proofs.Numbers.{lt-or-le, getD-any, both-long, both-first, both-second, both-other}
 
 -- kernel s has turned the word into `after`

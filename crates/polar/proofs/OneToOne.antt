@@ -3,7 +3,6 @@ use mathlib.Core.Path.{_≡_, refl, sym, ap, ap₂, _∙_, subst}
 use mathlib.Core.Logic.{_⊎_, inl, inr}
 use mathlib.Core.List.{List}
 use Prim.Native.Nat.{ℕ, zero, suc, _+_, _/_, _^_, _≤_, _<_}
-use native.Mathlib.Nat.{zero-lt-suc}
 use lib.Dec.{lit<}
 use lib.ListN.{length, getD, take, drop, List·getD-eq-default}
 use lib.Seq.{getD-take, getD-drop}
@@ -11,10 +10,10 @@ use Rattle.gf64.specs.Field.{_⊕_, _⊙_, inverse, NonZero}
 use Rattle.gf64.proofs.SumLaws.{sum-lt, sum-back}
 use Rattle.gf64.proofs.ProductLaws.{product-lt, inverse-undoes, undoes-inverse}
 use Rattle.polar.specs.Transform.{transform}
-use Rattle.polar.specs.Tree.{Tree, map2, All, leaves, treeOf, Place, at, number}
+use Rattle.polar.specs.Tree.{Tree, map2, All, leaves, treeOf, at}
 use Rattle.polar.specs.Halves.{Coefs, join, transformTree, coefsAt, blockTransform}
 use Rattle.polar.proofs.Numbers.{lt-or-le}
-use Rattle.polar.proofs.TreeLaws.{number-lt, map2-at, ext-at, all-by, all-at, length-leaves, treeOf-leaves, leaves-treeOf, all-treeOf, all-leaves}
+use Rattle.polar.proofs.TreeLaws.{map2-at, ext-at, all-by, all-at, length-leaves, treeOf-leaves, leaves-treeOf, all-treeOf, all-leaves}
 use Rattle.polar.proofs.ByHalves.{by-halves}
 
 abbrev Symbol : ℕ → Type 0
@@ -136,7 +135,7 @@ unfolding coefsAt AllNonZero
 coefs-nonzero zero start stride cs g = tt
 coefs-nonzero (suc m) start stride cs g = (
   all-treeOf 1 NonZero m (take (2 ^ m) (drop start cs)) (λ i l.
-  subst NonZero (sym (getD-take (2 ^ m) (drop start cs) i 1 l ∙ getD-drop start cs i 1)) (coef-nonzero cs g (start + i))),
+      subst NonZero (sym (getD-take (2 ^ m) (drop start cs) i 1 l ∙ getD-drop start cs i 1)) (coef-nonzero cs g (start + i))),
   coefs-nonzero m (start + stride) stride cs g,
   coefs-nonzero m (start + stride + 2 ^ m / 2) stride cs g,
 )
@@ -167,9 +166,9 @@ module _ (n : ℕ) (cs : List ℕ) where
     one-to-one u v a b e =
         let k = coefs-nonzero n 0 (2 ^ n / 2) cs g in
         let same : treeOf 0 n u ≡ treeOf 0 n v
-                = sym (undo-transform n h (treeOf 0 n u) k (word-tree u a))
-                ∙ ap (undo n h) (sym (tree-of-transform u a) ∙ ap (treeOf 0 n) e ∙ tree-of-transform v b)
-                ∙ undo-transform n h (treeOf 0 n v) k (word-tree v b) in
+        = sym (undo-transform n h (treeOf 0 n u) k (word-tree u a))
+        ∙ ap (undo n h) (sym (tree-of-transform u a) ∙ ap (treeOf 0 n) e ∙ tree-of-transform v b)
+        ∙ undo-transform n h (treeOf 0 n v) k (word-tree v b) in
         sym (leaves-treeOf 0 n u (a .long)) ∙ ap (leaves n) same ∙ leaves-treeOf 0 n v (b .long)
 
     -- every word comes from a word

@@ -1,6 +1,6 @@
 -- The code: n layers, a frozen map with a byte for each of the N = 2^n places, and a coefficient for each of the n × N/2 kernels;
 -- with the rows of document 01's table 'Refused' that judge a code, for every call that is given one.
-use Prim.Native.Nat.{ℕ, _+_, _*_, _/_, _^_}
+use Prim.Native.Nat.{ℕ, _+_}
 use mathlib.Core.Bool.{cond}
 use mathlib.Core.List.{List, [], _∷_}
 use lib.Dec.{eqb}

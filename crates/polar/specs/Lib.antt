@@ -3,3 +3,4 @@ pub mod Transform
 pub mod Encode
 pub mod Tree
 pub mod Halves
+pub mod Parts

@@ -2,7 +2,7 @@
 ghost use mathlib.Core.Path.{_≡_};
 ghost use Rattle.polar.specs.Code.{messagePlaces};
 ghost use Rattle.polar.specs.Encode.{wordBefore};
-ghost use Rattle.polar.specs.Halves.{Placing};
+ghost use Rattle.polar.specs.Parts.{Placing};
 
 // How many places of the map are message places (document 01: K). Any byte but 0 counts as a frozen place.
 pub fn message_places(map: &[u8]) -> usize

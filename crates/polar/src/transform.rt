@@ -1,6 +1,7 @@
 // The transform of a word in place, by halves.
 ghost use mathlib.Core.Path.{_≡_};
-ghost use Rattle.polar.specs.Halves.{Block, Halves, Joined, blockTransform};
+ghost use Rattle.polar.specs.Halves.{blockTransform};
+ghost use Rattle.polar.specs.Parts.{Block, Halves, Joined};
 
 // The kernels that join the two halves of a word: kernel t has the places t and half + t, and coefficient start + t.
 pub(crate) fn join_halves(half: usize, start: usize, coefs: &[u8], word: &mut [u8])
@@ -39,6 +40,13 @@ pub(crate) fn transform_block(
     let first = start + stride;
     let second = first + quarter;
     transform_block(layers - 1, quarter, first, stride, coefs, &mut word[..half]);
-    transform_block(layers - 1, quarter, second, stride, coefs, &mut word[half..]);
+    transform_block(
+        layers - 1,
+        quarter,
+        second,
+        stride,
+        coefs,
+        &mut word[half..],
+    );
     join_halves(half, start, coefs, word);
 }

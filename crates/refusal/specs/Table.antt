@@ -1,7 +1,7 @@
 -- A call's refusals as a table: rows of a number and a test, in the order in which they are tried.
 use Prim.Native.Nat.{ℕ, _<_}
 use mathlib.Core.Path.{_≡_}
-use mathlib.Core.Bool.{Bool, true, false, cond}
+use mathlib.Core.Bool.{Bool, false, cond}
 use mathlib.Core.List.{List, [], _∷_}
 
 -- a row: the number that is returned, and the test that asks for it

@@ -1,5 +1,5 @@
 -- `product` meets its contract: its six steps are those of the definition, from bit 5 down to bit 0.
-use mathlib.Core.Path.{_≡_, ap, _∙_}
+use mathlib.Core.Path.{ap, _∙_}
 use Prim.Native.Nat.{ℕ, _*_, _/_, _%_}
 use borrow.Author.Needs.{needs}
 use Rattle.gf64.specs.Field.{_⊕_, _⊙_, timesA, productBits, lowSix}

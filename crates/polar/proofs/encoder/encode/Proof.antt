@@ -1,5 +1,5 @@
 -- `encode` meets its contract: on a refusal nothing is written, and else its parts make the codeword (EncodeLaws).
-use mathlib.Core.Path.{_≡_, refl, sym, ap, _∙_}
+use mathlib.Core.Path.{_≡_, sym, _∙_}
 use borrow.Author.Needs.{needs}
 use Rattle.polar.specs.Encode.{encodeRefusal}
 use Rattle.polar.proofs.EncodeLaws.{Taken, taken, placing, whole-block, whole-word, buffer-taken, buffer-refused}

@@ -1,13 +1,12 @@
 -- `encode_refusal` meets its contract: it goes down document 01's table and stops at the first row that fits.
-use mathlib.Core.Path.{_≡_, refl, sym, ap, _∙_, subst}
-use mathlib.Core.Bool.{Bool, true, false}
+use mathlib.Core.Path.{_≡_, sym, ap, _∙_}
 use mathlib.Core.List.{List}
-use Prim.Native.Nat.{ℕ, _*_, _/_, _^_, _≤_}
+use Prim.Native.Nat.{ℕ, _*_, _/_, _≤_}
 use native.Mathlib.Nat.{mul-le-mul-right}
 use native.Mathlib.Omega.{arith}
 use borrow.Author.Needs.{needs}
 use borrow.Author.Tests.{eq-eqb, ne-eqb}
-use lib.ListN.{length, drop}
+use lib.ListN.{drop}
 use lib.Pow.{pow-mono}
 use Rattle.refusal.specs.Table.{Row}
 use Rattle.refusal.proofs.Laws.{Finds, none, here, later, finds-refusal}

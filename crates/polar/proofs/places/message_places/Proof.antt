@@ -1,12 +1,12 @@
 -- `message_places` meets its contract: k and the message places from i on are all of them.
-use mathlib.Core.Path.{_≡_, refl, sym, ap, _∙_}
+use mathlib.Core.Path.{sym, ap, _∙_}
 use mathlib.Core.Logic.{⊎-elim}
-use Prim.Native.Nat.{ℕ, suc, _+_, _-_, _≤_}
+use Prim.Native.Nat.{_-_}
 use native.Mathlib.Nat.{add-zero}
 use native.Mathlib.Omega.{arith}
 use borrow.Author.Needs.{needs}
 use lib.Dec.{lit≤}
-use lib.ListN.{length, getD, drop, drop-of-length-le}
+use lib.ListN.{length, getD, drop-of-length-le}
 use Rattle.polar.specs.Code.{messagePlaces, messageCount}
 use Rattle.polar.proofs.MessageLaws.{kind-message, kind-frozen, Counted, count-more}
 use Rattle.polar.proofs.places.message_places.Statement.{statement}

@@ -1,15 +1,15 @@
 -- `place_message` meets its contract: what is written before place j, and the word that the map makes from j on of the symbols that
 -- are left, are the whole word.
-use mathlib.Core.Path.{_≡_, refl, sym, ap, ap₂, _∙_}
+use mathlib.Core.Path.{_≡_, refl, sym, ap, _∙_}
 use mathlib.Core.Logic.{⊎-elim}
 use mathlib.Core.List.{List, _++_, append-nil}
-use Prim.Native.Nat.{ℕ, suc, _+_, _-_, _≤_, _<_}
+use Prim.Native.Nat.{ℕ, _-_, _<_}
 use native.Mathlib.Nat.{add-zero}
 use native.Mathlib.Omega.{arith}
 use borrow.Author.Needs.{needs}
 use lib.ListN.{length, getD, take, drop, set, drop-of-length-le}
 use lib.Seq.{take-all}
-use Rattle.polar.specs.Code.{message, frozen, messagePlaces, messageCount}
+use Rattle.polar.specs.Code.{messageCount}
 use Rattle.polar.specs.Encode.{placed, left, wordBefore}
 use Rattle.polar.proofs.MessageLaws.{kind-message, kind-frozen, places-from, PlacedTo, place-more, next-placed, next-left}
 use Rattle.polar.proofs.places.place_message.Statement.{statement}

@@ -1,12 +1,10 @@
 -- `join_halves` meets its contract: the kernels before t have been at their two places, the others not.
-use mathlib.Core.Path.{_≡_, refl, sym, ap, ap₂, _∙_, subst}
-use mathlib.Core.Logic.{⊎-elim}
-use mathlib.Core.List.{List}
-use Prim.Native.Nat.{ℕ, _+_, _-_, _≤_, _<_}
+use mathlib.Core.Path.{refl}
+use Prim.Native.Nat.{_-_}
 use native.Mathlib.Omega.{arith}
 use borrow.Author.Needs.{needs}
-use lib.ListN.{length, getD, set, length-set}
-use Rattle.gf64.specs.Field.{_⊕_, _⊙_}
+use lib.ListN.{length-set}
+use Rattle.gf64.specs.Field.{_⊕_}
 use Rattle.polar.proofs.JoinLaws.{JoinedTo, join-more}
 use Rattle.polar.proofs.transform.join_halves.Statement.{statement}
 use Rattle.polar.proofs.transform.join_halves.Tie as tie

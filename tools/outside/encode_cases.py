@@ -1,0 +1,135 @@
+"""Print the expected results of 400 pseudo-random calls of the encoder.
+
+One line for each case: the refusal number, then every byte of the codeword
+buffer after the call.  The inputs come from a fixed generator, so the output
+is the same bytes in each run; a program that draws its inputs in the same
+order can be compared with it line by line.
+"""
+
+import sys
+
+# Leave no compiled copy of scms.py behind in the repository.
+sys.dont_write_bytecode = True
+
+import scms
+
+CASES = 400
+
+# Lengths of the stores that the slices are lent from: one more than any call
+# needs, so that a slice can also be lent one too long.
+MAP_STORE = 257
+COEFS_STORE = 1025
+MESSAGE_STORE = 257
+
+# Damages to lengths: each is the number of 'one too short', and the number
+# after it is 'one too long'.
+MAP_LENGTH = 0
+COEFS_LENGTH = 2
+MESSAGE_LENGTH = 4
+CODEWORD_LENGTH = 6
+
+# Content of the codeword buffer before the call.  It is no symbol, so a byte
+# that the encoder leaves alone can be told from one it writes.
+UNTOUCHED = 255
+
+
+class Generator:
+    """32-bit linear congruential generator; a draw is the upper 16 bits."""
+
+    def __init__(self):
+        self.state = 1
+
+    def draw(self):
+        self.state = (self.state * 1664525 + 1013904223) % 2 ** 32
+        return self.state // 65536
+
+
+def lent_length(needed, damages, short):
+    """The length of a slice as lent: as needed, or off by one."""
+    if short in damages:
+        return max(needed - 1, 0)
+    if short + 1 in damages:
+        return needed + 1
+    return needed
+
+
+def damage_bytes(d, p, size, count, frozen_map, coefs, message):
+    """Damage d to the bytes, at a place that p picks; most d do nothing."""
+    if d == 8:
+        frozen_map[p % size] = 2
+    elif d == 9:
+        frozen_map[p % size] = 255
+    elif d == 10:
+        coefs[p % count] = 0
+    elif d == 11:
+        coefs[p % count] = 64
+    elif d == 12:
+        coefs[p % count] = 255
+    elif d == 13:
+        message[p % 2] = 64
+    elif d == 14:
+        message[p % 2] = 255
+    elif d == 15:
+        for place in range(size):
+            frozen_map[place] = 1
+
+
+def draw_case(generator):
+    """Draw one set of inputs: (n, map, coefs, message, codeword length)."""
+    draw = generator.draw
+
+    n = draw() % 10
+    # For an n that is to be refused the other inputs are sized as for n = 2.
+    layers = n if 1 <= n <= 8 else 2
+    size = 2 ** layers
+    count = layers * (size // 2)
+
+    # What is not drawn is 0.
+    frozen_map = [draw() % 2 for _ in range(size)]
+    frozen_map += [0] * (MAP_STORE - size)
+    coefs = [1 + draw() % 63 for _ in range(count)]
+    coefs += [0] * (COEFS_STORE - count)
+    message = [draw() % 64 for _ in range(MESSAGE_STORE)]
+
+    # Two damages, so that a case can fit several refusals at once and the
+    # order between them is tried as well.
+    d = draw() % 32
+    p = draw()
+    e = draw() % 32
+    q = draw()
+    damages = [d, e]
+    damage_bytes(d, p, size, count, frozen_map, coefs, message)
+    damage_bytes(e, q, size, count, frozen_map, coefs, message)
+
+    map_lent = frozen_map[:lent_length(size, damages, MAP_LENGTH)]
+    coefs_lent = coefs[:lent_length(count, damages, COEFS_LENGTH)]
+    # K is counted in the map as lent, after the damages.
+    K = scms.message_places(map_lent)
+    message_lent = message[:min(lent_length(K, damages, MESSAGE_LENGTH), MESSAGE_STORE)]
+    codeword_length = lent_length(size, damages, CODEWORD_LENGTH)
+    return (n, map_lent, coefs_lent, message_lent, codeword_length)
+
+
+def run_case(generator):
+    """Draw and encode one case: (n, refusal number, codeword buffer)."""
+    n, frozen_map, coefs, message, codeword_length = draw_case(generator)
+    codeword_buffer = [UNTOUCHED] * codeword_length
+    refusal, codeword = scms.encode(
+        n, frozen_map, coefs, message, codeword_length)
+    # A refused call leaves the buffer unchanged.
+    if codeword is not None:
+        codeword_buffer = codeword
+    return (n, refusal, codeword_buffer)
+
+
+def main():
+    generator = Generator()
+    for _ in range(CASES):
+        _, refusal, codeword_buffer = run_case(generator)
+        line = " ".join(str(number) for number in [refusal] + codeword_buffer)
+        # Written as bytes, so that the line feed is byte 10 on every system.
+        sys.stdout.buffer.write((line + "\n").encode("ascii"))
+
+
+if __name__ == "__main__":
+    main()
