@@ -1,78 +1,70 @@
 -- What it means that `encode` takes its input, and what it then has to hand its parts.
 use mathlib.Core.Path.{_≡_, refl, sym, ap, ap₂, _∙_, subst}
 use mathlib.Core.Bool.{Bool, cond}
+use mathlib.Core.Logic.{_⊎_, inl, inr}
 use mathlib.Core.List.{List}
 use Prim.Native.Nat.{ℕ, zero, suc, _+_, _*_, _/_, _^_, _≤_, _<_}
 use native.Mathlib.Nat.{mul-le-mul}
 use native.Mathlib.Omega.{arith}
 use borrow.Author.Tests.{eq-eqb, ne-eqb, eqb-false}
 use lib.Dec.{lit<}
-use lib.ListN.{length, getD}
+use lib.ListN.{length, getD, List·getD-eq-default}
 use lib.Pow.{pow-mono}
 use Rattle.refusal.specs.Table.{Numbered}
 use Rattle.refusal.proofs.Laws.{taken-none, none-taken}
-use Rattle.refusal.proofs.Within.{Within, inside-within, within-inside, none-within, within-none, false-equal, equal-false}
-use Rattle.polar.specs.Code.{messagePlaces}
-use Rattle.polar.specs.Encode.{wordBefore, codewordOf, encodeTable, encodeRefusal, encodeBuffer}
+use Rattle.refusal.proofs.Within.{inside-within, within-inside, none-within, within-none, false-equal, equal-false}
+use Rattle.polar.specs.Code.{messagePlaces, IsWord}
+use Rattle.polar.specs.Encode.{wordBefore, codewordOf, encodeTable, encodeRefusal, encodeBuffer, Encodable}
 use Rattle.polar.specs.Halves.{blockTransform}
 use Rattle.polar.specs.Parts.{Room, Block, Placing}
-use Rattle.polar.proofs.Numbers.{half-pow}
-use Rattle.polar.proofs.MessageLaws.{length-word}
+use Rattle.polar.proofs.Numbers.{half-pow, lt-or-le}
+use Rattle.polar.proofs.MessageLaws.{length-word, word-symbols}
 use Rattle.polar.proofs.ByHalves.{by-halves}
-
--- the input is taken: what each row of the table says where it does not fit
-pub record Taken (n : ℕ) (map cs symbols buffer : List ℕ) : Type 0 where
-  pub layers : Within 1 8 n
-  pub map-long : length map ≡ 2 ^ n
-  pub coefs-long : length cs ≡ n * (2 ^ n / 2)
-  pub message-long : length symbols ≡ messagePlaces map
-  pub buffer-long : length buffer ≡ 2 ^ n
-  pub map-bytes : (i : ℕ) → i < length map → Within 0 1 (getD map i 0)
-  pub some-message : messagePlaces map ≡ 0 → ⊥
-  pub coefs : (i : ℕ) → i < length cs → Within 1 63 (getD cs i 1)
-  pub message-symbols : (i : ℕ) → i < length symbols → Within 0 63 (getD symbols i 0)
+use Rattle.polar.proofs.OneToOne.{transform-word}
 
 module _ (n : ℕ) (map cs symbols buffer : List ℕ) where
   numbered : Numbered (encodeTable n map cs symbols buffer)
   numbered = (lit< tt, (lit< tt, (lit< tt, (lit< tt, (lit< tt, (lit< tt, (lit< tt, (lit< tt, (lit< tt, tt)))))))))
 
   -- taken exactly when no row fits
-  pub taken : encodeRefusal n map cs symbols buffer ≡ 0 → Taken n map cs symbols buffer
+  pub taken : encodeRefusal n map cs symbols buffer ≡ 0 → Encodable n map cs symbols buffer
   unfolding encodeRefusal
   taken e =
       let f = taken-none (encodeTable n map cs symbols buffer) numbered e in
       let g = f .1 .1 .1 .1 in
       record {
-        layers = inside-within 1 8 n (f .0);
-        map-long = false-equal (length map) (2 ^ n) (f .1 .0);
-        coefs-long = false-equal (length cs) (n * (2 ^ n / 2)) (f .1 .1 .0);
+        code = record {
+          layers = inside-within 1 8 n (f .0);
+          map-long = false-equal (length map) (2 ^ n) (f .1 .0);
+          coefs-long = false-equal (length cs) (n * (2 ^ n / 2)) (f .1 .1 .0);
+          map-bytes = none-within 0 1 0 map (g .1 .0);
+          some-message = eqb-false (messagePlaces map) 0 (g .1 .1 .0);
+          coefs = none-within 1 63 1 cs (g .1 .1 .1 .0);
+        };
         message-long = false-equal (length symbols) (messagePlaces map) (f .1 .1 .1 .0);
-        buffer-long = false-equal (length buffer) (2 ^ n) (g .0);
-        map-bytes = none-within 0 1 0 map (g .1 .0);
-        some-message = eqb-false (messagePlaces map) 0 (g .1 .1 .0);
-        coefs = none-within 1 63 1 cs (g .1 .1 .1 .0);
         message-symbols = none-within 0 63 0 symbols (g .1 .1 .1 .1 .0);
+        buffer-long = false-equal (length buffer) (2 ^ n) (g .0);
       }
 
-  pub takes : Taken n map cs symbols buffer → encodeRefusal n map cs symbols buffer ≡ 0
+  pub takes : Encodable n map cs symbols buffer → encodeRefusal n map cs symbols buffer ≡ 0
   unfolding encodeRefusal
   takes t =
       none-taken (encodeTable n map cs symbols buffer) (
-        within-inside 1 8 n (t .layers),
+        within-inside 1 8 n (t .code .layers),
         (
-          equal-false (length map) (2 ^ n) (t .map-long),
+          equal-false (length map) (2 ^ n) (t .code .map-long),
           (
-            equal-false (length cs) (n * (2 ^ n / 2)) (t .coefs-long),
+            equal-false (length cs) (n * (2 ^ n / 2)) (t .code .coefs-long),
             (
               equal-false (length symbols) (messagePlaces map) (t .message-long),
               (
                 equal-false (length buffer) (2 ^ n) (t .buffer-long),
                 (
-                  within-none 0 1 0 map (t .map-bytes),
+                  within-none 0 1 0 map (t .code .map-bytes),
                   (
-                    ne-eqb (messagePlaces map) 0 (t .some-message),
+                    ne-eqb (messagePlaces map) 0 (t .code .some-message),
                     (
-                      within-none 1 63 1 cs (t .coefs),
+                      within-none 1 63 1 cs (t .code .coefs),
                       (within-none 0 63 0 symbols (t .message-symbols), tt),
                     ),
                   ),
@@ -100,27 +92,43 @@ room-at (suc m) start stride all l =
     let q = half-pow m in
     (omega arith, room-at m (start + stride) stride all (omega arith), room-at m (start + stride + 2 ^ m / 2) stride all (omega arith))
 
-module _ (n : ℕ) (map cs symbols buffer : List ℕ) (t : Taken n map cs symbols buffer) where
+module _ (n : ℕ) (map cs symbols buffer : List ℕ) (t : Encodable n map cs symbols buffer) where
   pub placing : Placing map symbols buffer
-  placing = record { places = t .buffer-long ∙ sym (t .map-long); enough = t .message-long }
+  placing = record { places = t .buffer-long ∙ sym (t .code .map-long); enough = t .message-long }
 
   pub whole-block : (word : List ℕ) → word ≡ wordBefore map symbols → Block n (length map / 2) 0 (length map / 2) cs word
   whole-block word e =
-      let few = t .layers .most in
-      let half : length map / 2 ≡ 2 ^ n / 2 = ap (λ (x : ℕ). x / 2) (t .map-long) in
+      let few = t .code .layers .most in
+      let half : length map / 2 ≡ 2 ^ n / 2 = ap (λ (x : ℕ). x / 2) (t .code .map-long) in
       let size = pow-mono {i = n} {j = 8} few in
       let most = mul-le-mul {n₁ = n} {m₁ = 2 ^ n / 2} {n₂ = 8} {m₂ = 128} few (omega arith) in
       subst (λ (x : ℕ). Block n x 0 x cs word) (sym half) (record {
         few-layers = few;
         halved = refl;
         stride-small = omega arith;
-        few-coefs = (let l = t .coefs-long in omega arith);
-        room = room-at n 0 (2 ^ n / 2) (length cs) (let l = t .coefs-long in omega arith);
-        long = ap length e ∙ length-word map symbols ∙ t .map-long;
+        few-coefs = (let l = t .code .coefs-long in omega arith);
+        room = room-at n 0 (2 ^ n / 2) (length cs) (let l = t .code .coefs-long in omega arith);
+        long = ap length e ∙ length-word map symbols ∙ t .code .map-long;
       })
 
   pub whole-word : (word after : List ℕ) → word ≡ wordBefore map symbols → after ≡ blockTransform n 0 (length map / 2) cs word → after ≡ codewordOf n map cs symbols
   unfolding codewordOf
   whole-word word after e f =
-      f ∙ ap₂ (λ (h : ℕ) (w : List ℕ). blockTransform n 0 h cs w) (ap (λ (x : ℕ). x / 2) (t .map-long)) e
-      ∙ sym (by-halves n cs (wordBefore map symbols) (length-word map symbols ∙ t .map-long))
+      f ∙ ap₂ (λ (h : ℕ) (w : List ℕ). blockTransform n 0 h cs w) (ap (λ (x : ℕ). x / 2) (t .code .map-long)) e
+      ∙ sym (by-halves n cs (wordBefore map symbols) (length-word map symbols ∙ t .code .map-long))
+
+  -- every number of the message is a symbol, and so is what the list gives past its end
+  message-lt : (i : ℕ) → getD symbols i 0 < 64
+  message-lt i = go (lt-or-le i (length symbols))
+    where
+      go : (i < length symbols) ⊎ (length symbols ≤ i) → getD symbols i 0 < 64
+      go (inl l) = let m = t .message-symbols i l .most in omega arith
+      go (inr l) = subst (λ (x : ℕ). x < 64) (sym (List·getD-eq-default symbols 0 l)) (lit< tt)
+
+  -- the word before the transform and the codeword are words: N symbols each
+  pub before-word : IsWord n (wordBefore map symbols)
+  before-word = record { long = length-word map symbols ∙ t .code .map-long; symbols = λ i l. word-symbols map symbols message-lt i }
+
+  pub codeword-word : IsWord n (codewordOf n map cs symbols)
+  unfolding codewordOf
+  codeword-word = transform-word n cs (wordBefore map symbols) before-word

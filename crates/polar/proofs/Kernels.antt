@@ -6,7 +6,7 @@ use native.Mathlib.Nat.{mod-lt, div-add-mod', div-lt-iff-lt-mul}
 use native.Mathlib.Omega.{arith}
 use lib.Arith.{digits-div, digits-mod, digits-lt}
 use lib.Pow.{pow-pos}
-use Rattle.polar.specs.Transform.{theta, phi}
+use Rattle.polar.specs.Transform.{theta, phi, OneKernel}
 use Rattle.polar.proofs.Numbers.{whole, half-blocks, lt-or-le}
 
 -- a place, as a layer has it: in block w of 2 × c places, number i in that block's first half (θ) or second half (φ)
@@ -97,13 +97,7 @@ module _ (n d m : ℕ) (e : d + suc m ≡ n) where
       let b : t / c * (c + c) + (t % c + c) < 2 ^ d * (c + c) = digits-lt w (let r = rest t in omega arith) in
       omega arith
 
--- place j is θ or φ of the kernel, and of no other
-pub record OneKernel (n l j : ℕ) : Type 0 where
-  pub kernel : ℕ
-  pub below : kernel < 2 ^ n / 2
-  pub joins : (theta n l kernel ≡ j) ⊎ (phi n l kernel ≡ j)
-  pub only : (t : ℕ) → (theta n l t ≡ j) ⊎ (phi n l t ≡ j) → t ≡ kernel
-
+-- each place is θ or φ of exactly one kernel of each layer
 pub one-kernel : (n d j : ℕ) → d < n → j < 2 ^ n → OneKernel n (suc d) j
 one-kernel n d j ld lj = go (lt-or-le s c)
   where
@@ -140,7 +134,7 @@ one-kernel n d j ld lj = go (lt-or-le s c)
     go (inl l) =
         let q : theta n (suc d) (w * c + s) ≡ j = theta-is n d m e w s l ∙ parts in
         record {
-          kernel = w * c + s;
+          number = w * c + s;
           below = kernel-lt s l;
           joins = inl q;
           only = λ t r. ⊎-elim (λ a. theta-theta n d m e t (w * c + s) (a ∙ sym q)) (λ a. sym (theta-phi n d m e (w * c + s) t (q ∙ sym a))) r;
@@ -149,7 +143,7 @@ one-kernel n d j ld lj = go (lt-or-le s c)
         let l : s - c < c = omega (arith, s-lt) in
         let q : phi n (suc d) (w * c + (s - c)) ≡ j = phi-is n d m e w (s - c) l ∙ omega (arith, parts) in
         record {
-          kernel = w * c + (s - c);
+          number = w * c + (s - c);
           below = kernel-lt (s - c) l;
           joins = inr q;
           only = λ t r. ⊎-elim (λ a. theta-phi n d m e t (w * c + (s - c)) (a ∙ sym q)) (λ a. phi-phi n d m e t (w * c + (s - c)) (a ∙ sym q)) r;

@@ -1,16 +1,17 @@
 -- The laws of the map: which places hold message symbols, and the word that they make.
-use mathlib.Core.Path.{_≡_, refl, sym, ap, ap₂, _∙_}
-use mathlib.Core.Bool.{Bool, cond}
+use mathlib.Core.Path.{_≡_, refl, sym, ap, ap₂, _∙_, subst}
+use mathlib.Core.Bool.{Bool, true, false, cond}
 use mathlib.Core.List.{List, [], _∷_, _++_}
-use Prim.Native.Nat.{ℕ, suc, _+_, _≤_, _<_}
+use Prim.Native.Nat.{ℕ, zero, suc, _+_, _≤_, _<_}
 use native.Mathlib.Nat.{add-zero}
 use native.Mathlib.Numerals.{add-one}
 use native.Mathlib.Omega.{arith}
 use borrow.Author.Tests.{eq-eqb, ne-eqb}
+use lib.Dec.{eqb, lit<}
 use lib.ListN.{length, getD, take, drop, set, length-set}
 use lib.Seq.{drop-cons, drop-drop, getD-drop, take-suc-set, append-snoc}
 use Rattle.polar.specs.Code.{Kind, message, frozen, kindOf, messageCount, messagePlaces}
-use Rattle.polar.specs.Encode.{placed, left, wordBefore}
+use Rattle.polar.specs.Encode.{symbolAt, restAfter, wordBefore}
 
 pub kind-message : (byte : ℕ) → byte ≡ 0 → kindOf byte ≡ message
 unfolding kindOf
@@ -23,7 +24,28 @@ kind-frozen byte h = ap (λ (t : Bool). cond t message (frozen 0)) (ne-eqb byte 
 pub length-word : (map symbols : List ℕ) → length (wordBefore map symbols) ≡ length map
 unfolding wordBefore
 length-word [] symbols = refl
-length-word (b ∷ map) symbols = ap suc (length-word map (left (kindOf b) symbols))
+length-word (b ∷ map) symbols = ap suc (length-word map (restAfter (kindOf b) symbols))
+
+-- a place holds a symbol, and what is left of the message is symbols, if the message is
+kind-symbol : (byte : ℕ) (symbols : List ℕ) → ((i : ℕ) → getD symbols i 0 < 64) → symbolAt (kindOf byte) symbols < 64
+unfolding symbolAt kindOf
+kind-symbol byte symbols h = go (eqb byte 0)
+  where
+    go : (t : Bool) → symbolAt (cond t message (frozen 0)) symbols < 64
+    go true = h 0
+    go false = lit< tt
+
+rest-symbols : (kind : Kind) (symbols : List ℕ) → ((i : ℕ) → getD symbols i 0 < 64) → (i : ℕ) → getD (restAfter kind symbols) i 0 < 64
+unfolding restAfter
+rest-symbols message symbols h i = subst (λ (x : ℕ). x < 64) (sym (getD-drop 1 symbols i 0)) (h (1 + i))
+rest-symbols (frozen s) symbols h i = h i
+
+-- the word before the transform of a message of symbols is one of symbols
+pub word-symbols : (map symbols : List ℕ) → ((i : ℕ) → getD symbols i 0 < 64) → (i : ℕ) → getD (wordBefore map symbols) i 0 < 64
+unfolding wordBefore
+word-symbols [] symbols h i = lit< tt
+word-symbols (b ∷ map) symbols h zero = kind-symbol b symbols h
+word-symbols (b ∷ map) symbols h (suc i) = word-symbols map (restAfter (kindOf b) symbols) (rest-symbols (kindOf b) symbols h) i
 
 -- the map from place i on: the place itself, by its kind, and those after it
 module _ (map : List ℕ) (i : ℕ) (l : i < length map) {k : Kind} (e : kindOf (getD map i 0) ≡ k) where
@@ -34,13 +56,13 @@ module _ (map : List ℕ) (i : ℕ) (l : i < length map) {k : Kind} (e : kindOf 
   -- a word that holds the right symbols before place i, with the right one stored there
   pub word-from : (symbols word : List ℕ) → i < length word
       → take i word ++ wordBefore (drop i map) symbols
-      ≡ take (suc i) (set word i (placed k symbols)) ++ wordBefore (drop (suc i) map) (left k symbols)
+      ≡ take (suc i) (set word i (symbolAt k symbols)) ++ wordBefore (drop (suc i) map) (restAfter k symbols)
   unfolding wordBefore
   word-from symbols word s =
       ap (λ (x : List ℕ). take i word ++ wordBefore x symbols) (drop-cons map i 0 l)
-      ∙ ap (λ (x : Kind). take i word ++ placed x symbols ∷ wordBefore (drop (suc i) map) (left x symbols)) e
-      ∙ sym (append-snoc (take i word) (placed k symbols) (wordBefore (drop (suc i) map) (left k symbols)))
-      ∙ ap (λ (x : List ℕ). x ++ wordBefore (drop (suc i) map) (left k symbols)) (sym (take-suc-set word i (placed k symbols) s))
+      ∙ ap (λ (x : Kind). take i word ++ symbolAt x symbols ∷ wordBefore (drop (suc i) map) (restAfter x symbols)) e
+      ∙ sym (append-snoc (take i word) (symbolAt k symbols) (wordBefore (drop (suc i) map) (restAfter k symbols)))
+      ∙ ap (λ (x : List ℕ). x ++ wordBefore (drop (suc i) map) (restAfter k symbols)) (sym (take-suc-set word i (symbolAt k symbols) s))
 
 -- how far counting has come at place i: k of the places before it are message places
 abbrev pub Counted : (map : List ℕ) (k i : ℕ) → Type 0
@@ -62,13 +84,13 @@ PlacedTo map symbols before word next j =
 
 -- one place more
 module _ (map symbols before word : List ℕ) (next j : ℕ) {kind : Kind} (l : j < length map) (s : j < length word) (e : kindOf (getD map j 0) ≡ kind) where
-  pub place-more : (word′ : List ℕ) (next′ : ℕ) → word′ ≡ set word j (placed kind (drop next symbols)) → next′ ≡ next + messageCount kind
-      → left kind (drop next symbols) ≡ drop next′ symbols → PlacedTo map symbols before word next j → PlacedTo map symbols before word′ next′ (j + 1)
+  pub place-more : (word′ : List ℕ) (next′ : ℕ) → word′ ≡ set word j (symbolAt kind (drop next symbols)) → next′ ≡ next + messageCount kind
+      → restAfter kind (drop next symbols) ≡ drop next′ symbols → PlacedTo map symbols before word next j → PlacedTo map symbols before word′ next′ (j + 1)
   place-more word′ next′ ew en es h =
       let p = places-from map j l e in
       let q = ap (λ (x : ℕ). messagePlaces (drop x map)) (add-one j) in (
         omega arith,
-        ap length ew ∙ length-set word j (placed kind (drop next symbols)) ∙ h .1,
+        ap length ew ∙ length-set word j (symbolAt kind (drop next symbols)) ∙ h .1,
         (let r = h .2 in omega arith),
         h .3 ∙ word-from map j l e (drop next symbols) word s
             ∙ ap₂ (λ (w x : List ℕ). take (suc j) w ++ wordBefore (drop (suc j) map) x) (sym ew) es
@@ -76,10 +98,10 @@ module _ (map symbols before word : List ℕ) (next j : ℕ) {kind : Kind} (l : 
       )
 
 -- the next symbol of those that are left
-pub next-placed : (symbols : List ℕ) (next : ℕ) → placed message (drop next symbols) ≡ getD symbols next 0
-unfolding placed
+pub next-placed : (symbols : List ℕ) (next : ℕ) → symbolAt message (drop next symbols) ≡ getD symbols next 0
+unfolding symbolAt
 next-placed symbols next = getD-drop next symbols 0 0 ∙ ap (λ (x : ℕ). getD symbols x 0) (add-zero next)
 
-pub next-left : (symbols : List ℕ) (next : ℕ) → left message (drop next symbols) ≡ drop (next + 1) symbols
-unfolding left
+pub next-left : (symbols : List ℕ) (next : ℕ) → restAfter message (drop next symbols) ≡ drop (next + 1) symbols
+unfolding restAfter
 next-left symbols next = drop-drop 1 next symbols

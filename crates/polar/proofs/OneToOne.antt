@@ -3,12 +3,14 @@ use mathlib.Core.Path.{_≡_, refl, sym, ap, ap₂, _∙_, subst}
 use mathlib.Core.Logic.{_⊎_, inl, inr}
 use mathlib.Core.List.{List}
 use Prim.Native.Nat.{ℕ, zero, suc, _+_, _/_, _^_, _≤_, _<_}
+use native.Mathlib.Omega.{arith}
 use lib.Dec.{lit<}
 use lib.ListN.{length, getD, take, drop, List·getD-eq-default}
 use lib.Seq.{getD-take, getD-drop}
 use Rattle.gf64.specs.Field.{_⊕_, _⊙_, inverse, NonZero}
 use Rattle.gf64.proofs.SumLaws.{sum-lt, sum-back}
 use Rattle.gf64.proofs.ProductLaws.{product-lt, inverse-undoes, undoes-inverse}
+use Rattle.polar.specs.Code.{Coefficients, IsWord}
 use Rattle.polar.specs.Transform.{transform}
 use Rattle.polar.specs.Tree.{Tree, map2, All, leaves, treeOf, at}
 use Rattle.polar.specs.Halves.{Coefs, join, transformTree, coefsAt, blockTransform}
@@ -114,23 +116,14 @@ transform-undo (suc m) h x g p =
 
 -- ---- on lists
 
--- a word: N symbols
-pub record IsWord (n : ℕ) (u : List ℕ) : Type 0 where
-  pub long : length u ≡ 2 ^ n
-  pub symbols : (i : ℕ) → i < 2 ^ n → getD u i 0 < 64
-
--- every coefficient of the list is from 1 to 63
-abbrev pub NonZeros : List ℕ → Type 0
-NonZeros cs = (i : ℕ) → i < length cs → NonZero (getD cs i 1)
-
-coef-nonzero : (cs : List ℕ) → NonZeros cs → (i : ℕ) → NonZero (getD cs i 1)
+coef-nonzero : (cs : List ℕ) → Coefficients cs → (i : ℕ) → NonZero (getD cs i 1)
 coef-nonzero cs g i = go (lt-or-le i (length cs))
   where
     go : (i < length cs) ⊎ (length cs ≤ i) → NonZero (getD cs i 1)
-    go (inl l) = g i l
+    go (inl l) = let w = g i l in record { positive = w .least; symbol = (let m = w .most in omega arith) }
     go (inr l) = subst NonZero (sym (List·getD-eq-default cs 1 l)) (record { positive = lit< tt; symbol = lit< tt })
 
-pub coefs-nonzero : (m start stride : ℕ) (cs : List ℕ) → NonZeros cs → AllNonZero m (coefsAt m start stride cs)
+pub coefs-nonzero : (m start stride : ℕ) (cs : List ℕ) → Coefficients cs → AllNonZero m (coefsAt m start stride cs)
 unfolding coefsAt AllNonZero
 coefs-nonzero zero start stride cs g = tt
 coefs-nonzero (suc m) start stride cs g = (
@@ -160,7 +153,7 @@ module _ (n : ℕ) (cs : List ℕ) where
         (all-leaves 0 Symbol n (transformTree n h (treeOf 0 n u)) (transform-symbols n h (treeOf 0 n u) (word-tree u w)) i l);
   }
 
-  module _ (g : NonZeros cs) where
+  module _ (g : Coefficients cs) where
     -- no two words become the same
     pub one-to-one : (u v : List ℕ) → IsWord n u → IsWord n v → transform n cs u ≡ transform n cs v → u ≡ v
     one-to-one u v a b e =

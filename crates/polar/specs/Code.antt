@@ -1,12 +1,13 @@
 -- The code: n layers, a frozen map with a byte for each of the N = 2^n places, and a coefficient for each of the n × N/2 kernels;
 -- with the rows of document 01's table 'Refused' that judge a code, for every call that is given one.
-use Prim.Native.Nat.{ℕ, _+_}
+use Prim.Native.Nat.{ℕ, _+_, _*_, _/_, _^_, _<_}
+use mathlib.Core.Path.{_≡_}
 use mathlib.Core.Bool.{cond}
 use mathlib.Core.List.{List, [], _∷_}
 use lib.Dec.{eqb}
-use lib.ListN.{length}
+use lib.ListN.{length, getD}
 use Rattle.refusal.specs.Table.{Row}
-use Rattle.refusal.specs.Tests.{outside, anyOutside, unequal}
+use Rattle.refusal.specs.Tests.{outside, anyOutside, unequal, Within}
 
 -- what a place before the transform holds: a message symbol, or always the same symbol
 pub data Kind : Type 0 where
@@ -46,3 +47,21 @@ emptyRow map = (5, eqb (messagePlaces map) 0)
 -- 6: a coefficient 0 or above 63
 abbrev pub coefsRow : List ℕ → Row
 coefsRow cs = (6, anyOutside 1 63 cs)
+
+-- every coefficient is from 1 to 63
+abbrev pub Coefficients : List ℕ → Type 0
+Coefficients cs = (i : ℕ) → i < length cs → Within 1 63 (getD cs i 1)
+
+-- a code that no row refuses
+pub record IsCode (n : ℕ) (map cs : List ℕ) : Type 0 where
+  pub layers : Within 1 8 n
+  pub map-long : length map ≡ 2 ^ n
+  pub coefs-long : length cs ≡ n * (2 ^ n / 2)
+  pub map-bytes : (i : ℕ) → i < length map → Within 0 1 (getD map i 0)
+  pub some-message : messagePlaces map ≡ 0 → ⊥
+  pub coefs : Coefficients cs
+
+-- a word: N symbols
+pub record IsWord (n : ℕ) (u : List ℕ) : Type 0 where
+  pub long : length u ≡ 2 ^ n
+  pub symbols : (i : ℕ) → i < 2 ^ n → getD u i 0 < 64

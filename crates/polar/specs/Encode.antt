@@ -1,29 +1,29 @@
 -- What `encode` promises.
-use Prim.Native.Nat.{ℕ, _*_, _/_, _^_}
+use Prim.Native.Nat.{ℕ, _*_, _/_, _^_, _<_}
 use mathlib.Core.Path.{_≡_}
 use mathlib.Core.Bool.{cond}
 use mathlib.Core.List.{List, [], _∷_}
 use lib.Dec.{eqb}
-use lib.ListN.{getD, drop}
+use lib.ListN.{length, getD, drop}
 use Rattle.refusal.specs.Table.{Row, refusalOf}
-use Rattle.refusal.specs.Tests.{anyOutside}
-use Rattle.polar.specs.Code.{Kind, message, frozen, kindOf, messagePlaces, layersRow, lengthRow, mapRow, emptyRow, coefsRow}
+use Rattle.refusal.specs.Tests.{anyOutside, Within}
+use Rattle.polar.specs.Code.{Kind, message, frozen, kindOf, messagePlaces, layersRow, lengthRow, mapRow, emptyRow, coefsRow, IsCode}
 use Rattle.polar.specs.Transform.{transform}
 
 -- what a place of a kind holds: the next message symbol, or its own
-unfoldable pub placed : Kind → List ℕ → ℕ
-placed message symbols = getD symbols 0 0
-placed (frozen s) symbols = s
+unfoldable pub symbolAt : Kind → List ℕ → ℕ
+symbolAt message symbols = getD symbols 0 0
+symbolAt (frozen s) symbols = s
 
 -- the message symbols that are left after a place of a kind
-unfoldable pub left : Kind → List ℕ → List ℕ
-left message symbols = drop 1 symbols
-left (frozen s) symbols = symbols
+unfoldable pub restAfter : Kind → List ℕ → List ℕ
+restAfter message symbols = drop 1 symbols
+restAfter (frozen s) symbols = symbols
 
 -- the word before the transform: the message symbols fill the message places in rising order
 unfoldable pub wordBefore : List ℕ → List ℕ → List ℕ
 wordBefore [] symbols = []
-wordBefore (byte ∷ map) symbols = placed (kindOf byte) symbols ∷ wordBefore map (left (kindOf byte) symbols)
+wordBefore (byte ∷ map) symbols = symbolAt (kindOf byte) symbols ∷ wordBefore map (restAfter (kindOf byte) symbols)
 
 -- the codeword of a message: the transform of the word before it
 unfoldable pub codewordOf : (n : ℕ) → List ℕ → List ℕ → List ℕ → List ℕ
@@ -46,6 +46,13 @@ encodeTable n map cs symbols buffer =
     ∷ coefsRow cs
     ∷ symbolsRow symbols
     ∷ []
+
+-- what no row of that table fits
+pub record Encodable (n : ℕ) (map cs symbols buffer : List ℕ) : Type 0 where
+  pub code : IsCode n map cs
+  pub message-long : length symbols ≡ messagePlaces map
+  pub message-symbols : (i : ℕ) → i < length symbols → Within 0 63 (getD symbols i 0)
+  pub buffer-long : length buffer ≡ 2 ^ n
 
 -- the number that `encode` returns, 0 where it takes its input
 unfoldable pub encodeRefusal : (n : ℕ) → List ℕ → List ℕ → List ℕ → List ℕ → ℕ

@@ -1,5 +1,7 @@
 -- The polar transform in document 01's own indices: layer n first, layer 1 last; kernel by kernel in each layer.
-use Prim.Native.Nat.{ℕ, zero, suc, _+_, _*_, _/_, _%_, _-_, _^_}
+use Prim.Native.Nat.{ℕ, zero, suc, _+_, _*_, _/_, _%_, _-_, _^_, _<_}
+use mathlib.Core.Path.{_≡_}
+use mathlib.Core.Logic.{_⊎_}
 use mathlib.Core.List.{List}
 use lib.ListN.{getD, set}
 use Rattle.gf64.specs.Field.{_⊕_, _⊙_}
@@ -39,3 +41,10 @@ layers n (suc k) cs u = layer n (n - k) cs (layers n k cs u)
 -- the transform of a word u of N symbols: all n layers
 unfoldable pub transform : ℕ → List ℕ → List ℕ → List ℕ
 transform n cs u = layers n n cs u
+
+-- place j is θ or φ of a kernel of layer l, and of no other
+pub record OneKernel (n l j : ℕ) : Type 0 where
+  pub number : ℕ
+  pub below : number < 2 ^ n / 2
+  pub joins : (theta n l number ≡ j) ⊎ (phi n l number ≡ j)
+  pub only : (t : ℕ) → (theta n l t ≡ j) ⊎ (phi n l t ≡ j) → t ≡ number

@@ -2,19 +2,14 @@
 use mathlib.Core.Path.{_≡_, refl, ap, ap₂}
 use mathlib.Core.Bool.{Bool, true, false, not, _||_}
 use mathlib.Core.List.{List, [], _∷_}
-use Prim.Native.Nat.{ℕ, zero, suc, _≤_, _<_}
+use Prim.Native.Nat.{ℕ, zero, suc, _<_}
 use native.Mathlib.Nat.{le-of-suc-le-suc, not-suc-le-zero, zero-lt-suc}
 use native.Mathlib.Omega.{arith}
 use borrow.Author.Tests.{lt-ltb, le-ltb, ltb-false, eqb-true, eq-eqb, ne-eqb, not-false}
 use lib.Dec.{ltb, eqb}
 use lib.ListN.{length, getD, drop}
 use lib.Seq.{drop-cons}
-use Rattle.refusal.specs.Tests.{outside, anyOutside, unequal}
-
--- x is one of low, .., high
-pub record Within (low high x : ℕ) : Type 0 where
-  pub least : low ≤ x
-  pub most : x ≤ high
+use Rattle.refusal.specs.Tests.{outside, anyOutside, unequal, Within}
 
 or-left : (a b : Bool) → a || b ≡ false → a ≡ false
 or-left true b e = e

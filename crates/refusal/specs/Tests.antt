@@ -1,5 +1,5 @@
 -- Tests that several calls make of what they are lent.
-use Prim.Native.Nat.{ℕ}
+use Prim.Native.Nat.{ℕ, _≤_}
 use mathlib.Core.Bool.{Bool, false, not, _||_}
 use mathlib.Core.List.{List, [], _∷_}
 use lib.Dec.{ltb, eqb}
@@ -16,3 +16,8 @@ anyOutside low high (x ∷ xs) = outside low high x || anyOutside low high xs
 -- the two numbers are not equal
 unfoldable pub unequal : ℕ → ℕ → Bool
 unequal a b = not (eqb a b)
+
+-- what `outside` tests, said of a number for which it does not fit: x is one of low, low + 1, .., high
+pub record Within (low high x : ℕ) : Type 0 where
+  pub least : low ≤ x
+  pub most : x ≤ high

@@ -1,8 +1,8 @@
 -- `encode` meets its contract: on a refusal nothing is written, and else its parts make the codeword (EncodeLaws).
 use mathlib.Core.Path.{_≡_, sym, _∙_}
 use borrow.Author.Needs.{needs}
-use Rattle.polar.specs.Encode.{encodeRefusal}
-use Rattle.polar.proofs.EncodeLaws.{Taken, taken, placing, whole-block, whole-word, buffer-taken, buffer-refused}
+use Rattle.polar.specs.Encode.{encodeRefusal, Encodable}
+use Rattle.polar.proofs.EncodeLaws.{taken, placing, whole-block, whole-word, buffer-taken, buffer-refused}
 use Rattle.polar.proofs.encoder.encode.Statement.{statement}
 use Rattle.polar.proofs.encoder.encode.Tie as tie
 
@@ -14,7 +14,7 @@ entry c = c .before .before .before .before .before .before .before
 none-fits : (c : tie.Else1) → encodeRefusal (entry c .args .n) (entry c .args .map .now) (entry c .args .coefs .now) (entry c .args .message .now) (entry c .args .codeword .now) ≡ 0
 none-fits c = sym (c .before .encode-refusal .ensures) ∙ c .if1 .left
 
-input : (c : tie.Else1) → Taken (entry c .args .n) (entry c .args .map .now) (entry c .args .coefs .now) (entry c .args .message .now) (entry c .args .codeword .now)
+input : (c : tie.Else1) → Encodable (entry c .args .n) (entry c .args .map .now) (entry c .args .coefs .now) (entry c .args .message .now) (entry c .args .codeword .now)
 input c = taken _ _ _ _ _ (none-fits c)
 
 encode-refusal-requires : tie.Need-encode-refusal-requires

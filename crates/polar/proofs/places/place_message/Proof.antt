@@ -10,7 +10,7 @@ use borrow.Author.Needs.{needs}
 use lib.ListN.{length, getD, take, drop, set, drop-of-length-le}
 use lib.Seq.{take-all}
 use Rattle.polar.specs.Code.{messageCount}
-use Rattle.polar.specs.Encode.{placed, left, wordBefore}
+use Rattle.polar.specs.Encode.{symbolAt, restAfter, wordBefore}
 use Rattle.polar.proofs.MessageLaws.{kind-message, kind-frozen, places-from, PlacedTo, place-more, next-placed, next-left}
 use Rattle.polar.proofs.places.place_message.Statement.{statement}
 use Rattle.polar.proofs.places.place_message.Tie as tie
@@ -65,7 +65,7 @@ loop-less c = search needs
 
 -- src/places.rt:29:5
 loop-again : tie.Need-loop-again Inv-loop μ-loop
-unfolding placed left messageCount
+unfolding symbolAt restAfter messageCount
 loop-again c =
     let a = c .before .before .before .before .args in
     let at = c .before .before .before .loop in
