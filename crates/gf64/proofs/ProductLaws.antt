@@ -6,27 +6,32 @@ use native.Mathlib.Omega.{arith}
 use lib.Bits.{xor-mod}
 use lib.Dec.{lit<}
 use Rattle.gf64.specs.Field.{_⊕_, _⊙_, timesA, productBits, lowSix, power, inverse, NonZero}
-use Rattle.gf64.proofs.SumLaws.{sum-lt, sum-self, sum-zero, zero-sum, sum-cross}
+use Rattle.gf64.proofs.SumLaws.{last-bit, sum-lt, sum-self, sum-zero, zero-sum, sum-cross}
 use Rattle.gf64.proofs.Table.{pair, inverse-at}
 
 -- ---- the six low bits
 
+-- the six low bits are a symbol
 pub low-lt : (x : ℕ) → lowSix x < 64
 unfolding lowSix
 low-lt x = mod-lt x (zero-lt-suc 63)
 
+-- a symbol is its own six low bits
 pub low-symbol : (x : ℕ) → x < 64 → lowSix x ≡ x
 unfolding lowSix
 low-symbol x h = mod-eq-of-lt h
 
+-- the six low bits of a sum
 pub low-sum : (x y : ℕ) → lowSix (x ⊕ y) ≡ lowSix x ⊕ lowSix y
 unfolding lowSix _⊕_
 low-sum x y = xor-mod x y 6
 
+-- the product, opened
 product-bits : (x y : ℕ) → x ⊙ y ≡ productBits 6 (lowSix x) (lowSix y)
 unfolding _⊙_
 product-bits x y = refl
 
+-- only the six low bits of the factors count
 product-low : (x y : ℕ) → x ⊙ y ≡ lowSix x ⊙ lowSix y
 unfolding _⊙_
 product-low x y = ap₂ (productBits 6) (sym (low-symbol (lowSix x) (low-lt x))) (sym (low-symbol (lowSix y) (low-lt y)))
@@ -39,17 +44,17 @@ bit-lt zero y hb hy = subst (λ (p : ℕ). p < 64) (sym (zero-mul y)) (lit< tt)
 bit-lt (suc zero) y hb hy = subst (λ (p : ℕ). p < 64) (sym (one-mul y)) hy
 bit-lt (suc (suc b)) y hb hy = absurd (omega arith)
 
+-- a bit times a sum
 bit-sum : (b y z : ℕ) → b < 2 → b * (y ⊕ z) ≡ (b * y) ⊕ (b * z)
 bit-sum zero y z h = zero-mul (y ⊕ z) ∙ sym (ap₂ _⊕_ (zero-mul y) (zero-mul z) ∙ sum-zero 0)
 bit-sum (suc zero) y z h = one-mul (y ⊕ z) ∙ sym (ap₂ _⊕_ (one-mul y) (one-mul z))
 bit-sum (suc (suc b)) y z h = absurd (omega arith)
 
-bit : (x : ℕ) → x % 2 < 2
-bit x = mod-lt x (zero-lt-suc 1)
-
+-- a times a symbol is a symbol (Table)
 a-lt : (x : ℕ) → x < 64 → timesA x < 64
 a-lt x h = pair x x h h .a-symbol
 
+-- a times a sum (Table)
 a-sum : (x y : ℕ) → x < 64 → y < 64 → timesA (x ⊕ y) ≡ timesA x ⊕ timesA y
 a-sum x y hx hy = pair x y hx hy .a-sum
 
@@ -60,27 +65,32 @@ a-bit zero y h = ap timesA (zero-mul y) ∙ sym (zero-mul (timesA y))
 a-bit (suc zero) y h = ap timesA (one-mul y) ∙ sym (one-mul (timesA y))
 a-bit (suc (suc b)) y h = absurd (omega arith)
 
+-- a partial product is a symbol
 bits-lt : (k x y : ℕ) → y < 64 → productBits k x y < 64
 unfolding productBits
 bits-lt zero x y h = lit< tt
-bits-lt (suc k) x y h = sum-lt (timesA (productBits k (x / 2) y)) (x % 2 * y) (a-lt (productBits k (x / 2) y) (bits-lt k (x / 2) y h)) (bit-lt (x % 2) y (bit x) h)
+bits-lt (suc k) x y h = sum-lt (timesA (productBits k (x / 2) y)) (x % 2 * y) (a-lt (productBits k (x / 2) y) (bits-lt k (x / 2) y h)) (bit-lt (x % 2) y (last-bit x) h)
 
 -- ---- closed, commutative
 
+-- closed below 64, whatever the factors
 pub product-lt : (x y : ℕ) → x ⊙ y < 64
 unfolding _⊙_
 product-lt x y = bits-lt 6 (lowSix x) (lowSix y) (low-lt y)
 
+-- commutative (Table)
 pub product-comm : (x y : ℕ) → x ⊙ y ≡ y ⊙ x
 product-comm x y = product-low x y ∙ pair (lowSix x) (lowSix y) (low-lt x) (low-lt y) .swap ∙ sym (product-low y x)
 
 -- ---- 1 is neutral
 
+-- 0 times anything, bit by bit
 bits-zero : (k y : ℕ) → productBits k 0 y ≡ 0
 unfolding productBits timesA
 bits-zero zero y = refl
 bits-zero (suc k) y = ap₂ _⊕_ (ap timesA (bits-zero k y)) (zero-mul y) ∙ sum-zero 0
 
+-- 1 is neutral
 pub one-product : (x : ℕ) → x < 64 → 1 ⊙ x ≡ x
 unfolding _⊙_ productBits timesA lowSix
 one-product x h =
@@ -88,32 +98,38 @@ one-product x h =
 
 -- ---- distributive
 
+-- a partial product of a sum
 bits-sum : (k x y z : ℕ) → y < 64 → z < 64 → productBits k x (y ⊕ z) ≡ productBits k x y ⊕ productBits k x z
 unfolding productBits
 bits-sum zero x y z hy hz = sym (sum-zero 0)
 bits-sum (suc k) x y z hy hz =
     let p = productBits k (x / 2) y in
     let q = productBits k (x / 2) z in
-    ap₂ _⊕_ (ap timesA (bits-sum k (x / 2) y z hy hz) ∙ a-sum p q (bits-lt k (x / 2) y hy) (bits-lt k (x / 2) z hz)) (bit-sum (x % 2) y z (bit x))
+    ap₂ _⊕_ (ap timesA (bits-sum k (x / 2) y z hy hz) ∙ a-sum p q (bits-lt k (x / 2) y hy) (bits-lt k (x / 2) z hz)) (bit-sum (x % 2) y z (last-bit x))
     ∙ sum-cross (timesA p) (timesA q) (x % 2 * y) (x % 2 * z)
 
+-- distributive over the sum
 pub product-sum : (x y z : ℕ) → x ⊙ (y ⊕ z) ≡ (x ⊙ y) ⊕ (x ⊙ z)
 unfolding _⊙_
 product-sum x y z = ap (productBits 6 (lowSix x)) (low-sum y z) ∙ bits-sum 6 (lowSix x) (lowSix y) (lowSix z) (low-lt y) (low-lt z)
 
+-- and from the other side
 pub sum-product : (x y z : ℕ) → (x ⊕ y) ⊙ z ≡ (x ⊙ z) ⊕ (y ⊙ z)
 sum-product x y z = product-comm (x ⊕ y) z ∙ product-sum z x y ∙ ap₂ _⊕_ (product-comm z x) (product-comm z y)
 
 -- ---- 0
 
+-- anything times 0
 pub product-zero : (x : ℕ) → x ⊙ 0 ≡ 0
 product-zero x = ap (λ (p : ℕ). x ⊙ p) (sym (sum-zero 0)) ∙ product-sum x 0 0 ∙ sum-self (x ⊙ 0)
 
+-- 0 times anything
 pub zero-product : (x : ℕ) → 0 ⊙ x ≡ 0
 zero-product x = product-comm 0 x ∙ product-zero x
 
 -- ---- associative
 
+-- a bit comes out of a product
 bit-product : (b y z : ℕ) → b < 2 → (b * y) ⊙ z ≡ b * (y ⊙ z)
 bit-product zero y z h = ap (λ (p : ℕ). p ⊙ z) (zero-mul y) ∙ zero-product z ∙ sym (zero-mul (y ⊙ z))
 bit-product (suc zero) y z h = ap (λ (p : ℕ). p ⊙ z) (one-mul y) ∙ sym (one-mul (y ⊙ z))
@@ -125,8 +141,8 @@ unfolding productBits timesA
 bits-a zero x y h = refl
 bits-a (suc k) x y h =
     let p = productBits k (x / 2) y in
-    ap₂ _⊕_ (ap timesA (bits-a k (x / 2) y h)) (sym (a-bit (x % 2) y (bit x)))
-    ∙ sym (a-sum (timesA p) (x % 2 * y) (a-lt p (bits-lt k (x / 2) y h)) (bit-lt (x % 2) y (bit x) h))
+    ap₂ _⊕_ (ap timesA (bits-a k (x / 2) y h)) (sym (a-bit (x % 2) y (last-bit x)))
+    ∙ sym (a-sum (timesA p) (x % 2 * y) (a-lt p (bits-lt k (x / 2) y h)) (bit-lt (x % 2) y (last-bit x) h))
 
 -- and of the first
 a-product : (x y : ℕ) → x < 64 → timesA x ⊙ y ≡ timesA (x ⊙ y)
@@ -136,14 +152,16 @@ a-product x y h =
     ∙ bits-a 6 (lowSix y) (lowSix x) (low-lt x)
     ∙ ap timesA (sym (product-bits y x) ∙ product-comm y x)
 
+-- a partial product times z
 bits-product : (k x y z : ℕ) → y < 64 → z < 64 → productBits k x y ⊙ z ≡ productBits k x (y ⊙ z)
 unfolding productBits
 bits-product zero x y z hy hz = zero-product z
 bits-product (suc k) x y z hy hz =
     let p = productBits k (x / 2) y in
     sum-product (timesA p) (x % 2 * y) z
-    ∙ ap₂ _⊕_ (a-product p z (bits-lt k (x / 2) y hy) ∙ ap timesA (bits-product k (x / 2) y z hy hz)) (bit-product (x % 2) y z (bit x))
+    ∙ ap₂ _⊕_ (a-product p z (bits-lt k (x / 2) y hy) ∙ ap timesA (bits-product k (x / 2) y z hy hz)) (bit-product (x % 2) y z (last-bit x))
 
+-- associative
 pub product-assoc : (x y z : ℕ) → (x ⊙ y) ⊙ z ≡ x ⊙ (y ⊙ z)
 product-assoc x y z =
     product-low (x ⊙ y) z
@@ -154,16 +172,19 @@ product-assoc x y z =
 
 -- ---- the rule a^6 = a + 1; a is the symbol 2
 
+-- a^6 is a + 1
 pub sixth-power : power 2 6 ≡ 3
 unfolding power _⊙_ productBits timesA lowSix _⊕_
 sixth-power = refl
 
 -- ---- the map c ↦ h ⊙ c, for h from 1 to 63
 
+-- the inverse is one (Table)
 pub inverse-product : (h : ℕ) → NonZero h → inverse h ⊙ h ≡ 1
 inverse-product zero u = absurd (let l = u .positive in omega arith)
 inverse-product (suc h) u = inverse-at h (u .symbol)
 
+-- the inverse is a symbol other than 0
 pub inverse-nonzero : (h : ℕ) → NonZero h → NonZero (inverse h)
 unfolding inverse power
 inverse-nonzero h u = record { positive = go (inverse h) refl; symbol = product-lt h (power h 61) }

@@ -7,10 +7,12 @@ use native.Mathlib.Nat.{le-of-suc-le-suc, not-suc-le-zero, eq-or-lt-of-le}
 use lib.Dec.{T, ltb, eqb, ltb→lt, eqb→eq}
 use Rattle.gf64.specs.Field.{_⊕_, _⊙_, timesA, productBits, lowSix, power, inverse}
 
+-- both tests pass, so the first does
 and-left : (a b : Bool) → T (a && b) → T a
 and-left true b t = tt
 and-left false b t = t
 
+-- and the second
 and-right : (a b : Bool) → T (a && b) → T b
 and-right true b t = t
 and-right false b t = absurd t
@@ -20,6 +22,7 @@ all : (ℕ → Bool) → ℕ → Bool
 all f zero = true
 all f (suc n) = f n && all f n
 
+-- so it passes at each
 all-at : (f : ℕ → Bool) (n : ℕ) → T (all f n) → (k : ℕ) → k < n → T (f k)
 unfolding all
 all-at f zero t k h = absurd (not-suc-le-zero h)
@@ -33,6 +36,7 @@ all-at f (suc n) t k h = go (all-at f n (and-right (f n) (all f n) t)) (eq-or-lt
 pairOk : ℕ → ℕ → Bool
 pairOk x y = eqb (x ⊙ y) (y ⊙ x) && (ltb (timesA x) 64 && eqb (timesA (x ⊕ y)) (timesA x ⊕ timesA y))
 
+-- the test of the pairs of one x
 rowOk : ℕ → Bool
 unfolding all pairOk
 rowOk x = all (pairOk x) 64
@@ -66,10 +70,12 @@ pair x y hx hy =
 inverseOk : ℕ → Bool
 inverseOk x = eqb (inverse (suc x) ⊙ suc x) 1
 
+-- the check over the 63 symbols but 0
 inverses : T (all inverseOk 63)
 unfolding all inverseOk inverse power _⊙_ productBits timesA lowSix _⊕_
 inverses = tt
 
+-- the check at one symbol
 pub inverse-at : (x : ℕ) → suc x < 64 → inverse (suc x) ⊙ suc x ≡ 1
 unfolding inverseOk
 inverse-at x h = eqb→eq (inverse (suc x) ⊙ suc x) 1 (all-at inverseOk 63 inverses x (le-of-suc-le-suc h))

@@ -24,9 +24,11 @@ tail h xs = take (length xs - h) (drop h xs)
 abbrev pub put : ℕ → List ℕ → List ℕ → List ℕ
 put h xs ys = take h xs ++ (ys ++ drop (length xs - h) (drop h xs))
 
+-- the part lent is all from place h on
 tail-drop : (h : ℕ) (xs : List ℕ) → tail h xs ≡ drop h xs
 tail-drop h xs = take-all (length xs - h) (drop h xs) (le-of-eq (length-drop h xs))
 
+-- the whole is what was kept and then the part
 put-append : (h : ℕ) (xs ys : List ℕ) → put h xs ys ≡ take h xs ++ ys
 put-append h xs ys =
     ap (λ (l : List ℕ). take h xs ++ l)
@@ -36,6 +38,7 @@ module _ (h : ℕ) (word a : List ℕ) (la : length a ≡ length (take h word)) 
   front-long : length a ≡ h
   front-long = la ∙ length-take-le h word l
 
+  -- the whole keeps its length when the first half is back
   pub lent-long : length (a ++ drop h word) ≡ length word
   lent-long = let e = front-long in length-append a (drop h word) ∙ ap₂ (λ (x y : ℕ). x + y) front-long (length-drop h word) ∙ omega arith
 
@@ -47,6 +50,7 @@ module _ (h : ℕ) (word a : List ℕ) (la : length a ≡ length (take h word)) 
   lent-both : (b : List ℕ) → put h (a ++ drop h word) b ≡ a ++ b
   lent-both b = put-append h (a ++ drop h word) b ∙ ap (λ (x : List ℕ). x ++ b) (take-at a (drop h word) h front-long)
 
+  -- and when the second is
   pub lent-whole : (b : List ℕ) → length b ≡ length (tail h (a ++ drop h word)) → length (put h (a ++ drop h word) b) ≡ length word
   lent-whole b lb =
       let e = front-long in
@@ -194,6 +198,7 @@ module _ (start stride : ℕ) (cs word : List ℕ) where
       → Joined h start cs (put h (a ++ drop h word) b) after → after ≡ blockTransform L start stride cs word
 
 module _ {L half start stride : ℕ} {cs word : List ℕ} (ne : L ≡ 0 → ⊥) (given : Block L half start stride cs word) where
+  -- the sizes
   pub at-sizes : Sizes half start word
   at-sizes = split (HasSizes start stride cs word) (λ p g. record {
     few = (let l = pow-mono {i = p} {j = 7} (let m = g .few-layers in omega arith) in omega arith);
@@ -201,17 +206,21 @@ module _ {L half start stride : ℕ} {cs word : List ℕ} (ne : L ≡ 0 → ⊥)
     within = half-le p start stride cs word g;
   }) L half ne (given .halved) given
 
+  -- what the call on the first half is given
   pub at-first : Block (L - 1) (half / 2) (start + stride) stride cs (take half word)
   at-first = split (First start stride cs word) (λ p g. first-block p start stride cs word g) L half ne (given .halved) given
 
   module _ (a : List ℕ) (la : length a ≡ length (take half word)) where
+    -- what the call on the second half is given
     pub at-second : Block (L - 1) (half / 2) (start + stride + half / 2) stride cs (tail half (a ++ drop half word))
     at-second = split (Second start stride cs word) (λ p g. second-block p start stride cs word g) L half ne (given .halved) given a la
 
     module _ (b : List ℕ) (lb : length b ≡ length (tail half (a ++ drop half word))) where
+      -- what the kernels that join them are given
       pub at-joins : Halves half start cs (put half (a ++ drop half word) b)
       at-joins = split (Joins start stride cs word) (λ p g a b la. halves p start stride cs word g a la b) L half ne (given .halved) given a b la lb
 
+      -- what is left is the block, transformed
       pub at-transformed : (after : List ℕ) → length after ≡ length (put half (a ++ drop half word) b)
           → a ≡ blockTransform (L - 1) (start + stride) stride cs (take half word)
           → b ≡ blockTransform (L - 1) (start + stride + half / 2) stride cs (tail half (a ++ drop half word))
@@ -220,6 +229,7 @@ module _ {L half start stride : ℕ} {cs word : List ℕ} (ne : L ≡ 0 → ⊥)
           split (Transformed start stride cs word)
           (λ p g a b after la lb lw ea eb j. transformed p start stride cs word g a la b lb ea eb after lw j) L half ne (given .halved) given a b after la lb
 
+-- a block of one place is transformed as it stands
 one-place : (start stride : ℕ) (cs word : List ℕ) → length word ≡ 1 → word ≡ blockTransform 0 start stride cs word
 unfolding blockTransform transformTree
 one-place start stride cs word l = sym (leaves-treeOf 0 0 word l)

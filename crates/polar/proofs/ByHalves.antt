@@ -20,6 +20,7 @@ window : (m o : ℕ) → List ℕ → Tree ℕ m
 window zero o x = getD x o 0
 window (suc m) o x = (window m o x, window m (o + 2 ^ m) x)
 
+-- what stands at a place of it
 window-at : {m : ℕ} (p : Place m) (o : ℕ) (x : List ℕ) → at (window m o x) p ≡ getD x (o + number p) 0
 unfolding at window number
 window-at here o x = ap (λ (i : ℕ). getD x i 0) (sym (add-zero o))

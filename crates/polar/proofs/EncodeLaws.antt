@@ -46,6 +46,7 @@ module _ (n : ℕ) (map cs symbols buffer : List ℕ) where
         buffer-long = false-equal (length buffer) (2 ^ n) (g .0);
       }
 
+  -- and the other way round
   pub takes : Encodable n map cs symbols buffer → encodeRefusal n map cs symbols buffer ≡ 0
   unfolding encodeRefusal
   takes t =
@@ -80,6 +81,7 @@ module _ (n : ℕ) (map cs symbols buffer : List ℕ) where
   unfolding encodeBuffer
   buffer-taken e = ap (λ (t : Bool). cond t (codewordOf n map cs symbols) buffer) (eq-eqb _ 0 e)
 
+  -- refused: what it held
   pub buffer-refused : (encodeRefusal n map cs symbols buffer ≡ 0 → ⊥) → encodeBuffer n map cs symbols buffer ≡ buffer
   unfolding encodeBuffer
   buffer-refused h = ap (λ (t : Bool). cond t (codewordOf n map cs symbols) buffer) (ne-eqb _ 0 h)
@@ -93,9 +95,11 @@ room-at (suc m) start stride all l =
     (omega arith, room-at m (start + stride) stride all (omega arith), room-at m (start + stride + 2 ^ m / 2) stride all (omega arith))
 
 module _ (n : ℕ) (map cs symbols buffer : List ℕ) (t : Encodable n map cs symbols buffer) where
+  -- what `place_message` is given
   pub placing : Placing map symbols buffer
   placing = record { places = t .buffer-long ∙ sym (t .code .map-long); enough = t .message-long }
 
+  -- what `transform_block` is given: the whole word is a block
   pub whole-block : (word : List ℕ) → word ≡ wordBefore map symbols → Block n (length map / 2) 0 (length map / 2) cs word
   whole-block word e =
       let few = t .code .layers .most in
@@ -111,6 +115,7 @@ module _ (n : ℕ) (map cs symbols buffer : List ℕ) (t : Encodable n map cs sy
         long = ap length e ∙ length-word map symbols ∙ t .code .map-long;
       })
 
+  -- what `transform_block` leaves is the codeword
   pub whole-word : (word after : List ℕ) → word ≡ wordBefore map symbols → after ≡ blockTransform n 0 (length map / 2) cs word → after ≡ codewordOf n map cs symbols
   unfolding codewordOf
   whole-word word after e f =
@@ -129,6 +134,7 @@ module _ (n : ℕ) (map cs symbols buffer : List ℕ) (t : Encodable n map cs sy
   pub before-word : IsWord n (wordBefore map symbols)
   before-word = record { long = length-word map symbols ∙ t .code .map-long; symbols = λ i l. word-symbols map symbols message-lt i }
 
+  -- by the transform of words
   pub codeword-word : IsWord n (codewordOf n map cs symbols)
   unfolding codewordOf
   codeword-word = transform-word n cs (wordBefore map symbols) before-word

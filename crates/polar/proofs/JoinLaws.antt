@@ -30,6 +30,7 @@ module _ (half start : ℕ) (cs word after : List ℕ) (t : ℕ) (given : Halves
   abbrev next : ℕ → List ℕ
   next r = set (set after t (getD after t 0 ⊕ getD after (half + t) 0)) (half + t) r
 
+  -- then kernel t is done too
   pub join-more : (r : ℕ) → r ≡ getD cs (start + t) 0 ⊙ getD after (half + t) 0 → JoinedTo half start cs word (next r) (t + 1)
   join-more r e =
       let n = given .long in

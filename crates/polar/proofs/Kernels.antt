@@ -46,6 +46,7 @@ module _ (n d m : ℕ) (e : d + suc m ≡ n) where
   unfolding theta
   theta-is w i l = ap (λ (x : ℕ). 2 * (w * 2 ^ m + i) - (w * 2 ^ m + i) % 2 ^ x) gap ∙ block-theta (2 ^ m) (pow-pos m) w i l
 
+  -- and φ
   pub phi-is : (w i : ℕ) → i < 2 ^ m → phi n (suc d) (w * 2 ^ m + i) ≡ w * (2 ^ m + 2 ^ m) + i + 2 ^ m
   unfolding phi
   phi-is w i l = ap (λ (x : ℕ). theta n (suc d) (w * 2 ^ m + i) + 2 ^ x) gap ∙ ap (λ (x : ℕ). x + 2 ^ m) (theta-is w i l)
@@ -76,12 +77,15 @@ module _ (n d m : ℕ) (e : d + suc m ≡ n) where
   pub theta-theta : (s t : ℕ) → theta n (suc d) s ≡ theta n (suc d) t → s ≡ t
   theta-theta s t q = sym (of-theta s) ∙ ap kernelOf q ∙ of-theta t
 
+  -- nor φ of two
   pub phi-phi : (s t : ℕ) → phi n (suc d) s ≡ phi n (suc d) t → s ≡ t
   phi-phi s t q = sym (of-phi s) ∙ ap kernelOf q ∙ of-phi t
 
+  -- nor θ of one and φ of another
   pub theta-phi : (s t : ℕ) → theta n (suc d) s ≡ phi n (suc d) t → s ≡ t
   theta-phi s t q = sym (of-theta s) ∙ ap kernelOf q ∙ of-phi t
 
+  -- a kernel has two places
   pub theta-lt-phi : (t : ℕ) → theta n (suc d) t < phi n (suc d) t
   unfolding phi
   theta-lt-phi t = let p = pow-pos (n - suc d) in omega arith

@@ -11,6 +11,7 @@ use Rattle.polar.specs.Transform.{theta, phi, coefficient, kernel, kerne
 use Rattle.polar.proofs.Numbers.{lt-or-le, both-first, both-second, both-other}
 use Rattle.polar.proofs.Kernels.{theta-theta, theta-phi, phi-phi, theta-lt-phi, phi-lt}
 
+-- kernels keep the length of the word
 pub kernels-long : (n l k : ℕ) (cs x : List ℕ) → length (kernels n l k cs x) ≡ length x
 unfolding kernels kernel
 kernels-long n l zero cs x = refl
@@ -19,10 +20,12 @@ kernels-long n l (suc k) cs x =
     length-set (set y (theta n l k) (getD y (theta n l k) 0 ⊕ getD y (phi n l k) 0)) (phi n l k) (coefficient n l k cs ⊙ getD y (phi n l k) 0)
     ∙ length-set y (theta n l k) (getD y (theta n l k) 0 ⊕ getD y (phi n l k) 0) ∙ kernels-long n l k cs x
 
+-- so does a layer
 pub layer-long : (n l : ℕ) (cs x : List ℕ) → length (layer n l cs x) ≡ length x
 unfolding layer
 layer-long n l cs x = kernels-long n l (2 ^ n / 2) cs x
 
+-- and so do layers
 pub layers-long : (n k : ℕ) (cs u : List ℕ) → length (layers n k cs u) ≡ length u
 unfolding layers
 layers-long n zero cs u = refl

@@ -13,14 +13,17 @@ use lib.Seq.{drop-cons, drop-drop, getD-drop, take-suc-set, append-snoc}
 use Rattle.polar.specs.Code.{Kind, message, frozen, kindOf, messageCount, messagePlaces}
 use Rattle.polar.specs.Encode.{symbolAt, restAfter, wordBefore}
 
+-- the byte 0 is a message place
 pub kind-message : (byte : ℕ) → byte ≡ 0 → kindOf byte ≡ message
 unfolding kindOf
 kind-message byte e = ap (λ (t : Bool). cond t message (frozen 0)) (eq-eqb byte 0 e)
 
+-- any other byte is a frozen place
 pub kind-frozen : (byte : ℕ) → (byte ≡ 0 → ⊥) → kindOf byte ≡ frozen 0
 unfolding kindOf
 kind-frozen byte h = ap (λ (t : Bool). cond t message (frozen 0)) (ne-eqb byte 0 h)
 
+-- the word has a symbol for each map byte
 pub length-word : (map symbols : List ℕ) → length (wordBefore map symbols) ≡ length map
 unfolding wordBefore
 length-word [] symbols = refl
@@ -35,6 +38,7 @@ kind-symbol byte symbols h = go (eqb byte 0)
     go true = h 0
     go false = lit< tt
 
+-- and the symbols that are left are symbols
 rest-symbols : (kind : Kind) (symbols : List ℕ) → ((i : ℕ) → getD symbols i 0 < 64) → (i : ℕ) → getD (restAfter kind symbols) i 0 < 64
 unfolding restAfter
 rest-symbols message symbols h i = subst (λ (x : ℕ). x < 64) (sym (getD-drop 1 symbols i 0)) (h (1 + i))
@@ -49,6 +53,7 @@ word-symbols (b ∷ map) symbols h (suc i) = word-symbols map (restAfter (kindOf
 
 -- the map from place i on: the place itself, by its kind, and those after it
 module _ (map : List ℕ) (i : ℕ) (l : i < length map) {k : Kind} (e : kindOf (getD map i 0) ≡ k) where
+  -- the message places from place i on
   pub places-from : messagePlaces (drop i map) ≡ messageCount k + messagePlaces (drop (suc i) map)
   unfolding messagePlaces
   places-from = ap messagePlaces (drop-cons map i 0 l) ∙ ap (λ (x : Kind). messageCount x + messagePlaces (drop (suc i) map)) e
@@ -84,6 +89,7 @@ PlacedTo map symbols before word next j =
 
 -- one place more
 module _ (map symbols before word : List ℕ) (next j : ℕ) {kind : Kind} (l : j < length map) (s : j < length word) (e : kindOf (getD map j 0) ≡ kind) where
+  -- the symbol stored is the one of the place's kind
   pub place-more : (word′ : List ℕ) (next′ : ℕ) → word′ ≡ set word j (symbolAt kind (drop next symbols)) → next′ ≡ next + messageCount kind
       → restAfter kind (drop next symbols) ≡ drop next′ symbols → PlacedTo map symbols before word next j → PlacedTo map symbols before word′ next′ (j + 1)
   place-more word′ next′ ew en es h =
@@ -102,6 +108,7 @@ pub next-placed : (symbols : List ℕ) (next : ℕ) → symbolAt message (drop n
 unfolding symbolAt
 next-placed symbols next = getD-drop next symbols 0 0 ∙ ap (λ (x : ℕ). getD symbols x 0) (add-zero next)
 
+-- and those left after it
 pub next-left : (symbols : List ℕ) (next : ℕ) → restAfter message (drop next symbols) ≡ drop (next + 1) symbols
 unfolding restAfter
 next-left symbols next = drop-drop 1 next symbols

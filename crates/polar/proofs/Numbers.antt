@@ -14,6 +14,7 @@ use lib.Seq.{getD-set-same, getD-set-other}
 pub two-pow : (m : ℕ) → 2 ^ suc m ≡ 2 ^ m + 2 ^ m
 two-pow m = let e = pow-suc 2 m in omega arith
 
+-- half of that
 pub half-pow : (m : ℕ) → 2 ^ suc m / 2 ≡ 2 ^ m
 half-pow m = let e = two-pow m in omega arith
 
@@ -25,6 +26,7 @@ whole n d m e = ap (λ (x : ℕ). 2 ^ x) (sym e) ∙ pow-add 2 d (suc m) ∙ ap 
 pub half-blocks : (n d m : ℕ) → d + suc m ≡ n → 2 ^ n / 2 ≡ 2 ^ d * 2 ^ m
 half-blocks n d m e = let q = whole n d m e in omega arith
 
+-- of two numbers one is below the other or not
 pub lt-or-le : (a b : ℕ) → (a < b) ⊎ (b ≤ a)
 lt-or-le a b = go (decLt a b)
   where
@@ -43,14 +45,18 @@ module _ (xs : List ℕ) (i j x y : ℕ) (li : i < length xs) (lj : j < length x
   abbrev both : List ℕ
   both = set (set xs i x) j y
 
+  -- the length stays
   pub both-long : length both ≡ length xs
   both-long = length-set (set xs i x) j y ∙ length-set xs i x
 
+  -- what stands at the first place
   pub both-first : getD both i 0 ≡ x
   both-first = getD-set-other (set xs i x) j i y 0 (λ q. absurd (omega arith)) ∙ getD-set-same xs i x 0 li
 
+  -- at the second
   pub both-second : getD both j 0 ≡ y
   both-second = getD-set-same (set xs i x) j y 0 (let e = length-set xs i x in omega arith)
 
+  -- and at any other
   pub both-other : (k : ℕ) → (k ≡ i → ⊥) → (k ≡ j → ⊥) → getD both k 0 ≡ getD xs k 0
   both-other k a b = getD-set-other (set xs i x) j k y 0 b ∙ getD-set-other xs i k x 0 a

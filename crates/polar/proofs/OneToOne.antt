@@ -18,6 +18,7 @@ use Rattle.polar.proofs.Numbers.{lt-or-le}
 use Rattle.polar.proofs.TreeLaws.{map2-at, ext-at, all-by, all-at, length-leaves, treeOf-leaves, leaves-treeOf, all-treeOf, all-leaves}
 use Rattle.polar.proofs.ByHalves.{by-halves}
 
+-- a symbol, as a property of a place
 abbrev Symbol : ℕ → Type 0
 Symbol s = s < 64
 
@@ -33,12 +34,15 @@ all-map2 : {A B C : Type 0} (P : A → Type 0) (Q : B → Type 0) (R : C → Typ
     → ((x : A) (y : B) → P x → Q y → R (f x y)) → All m P a → All m Q b → All m R (map2 m f a b)
 all-map2 P Q R f m a b h p q = all-by R m (map2 m f a b) (λ i. subst R (sym (map2-at f i a b)) (h (at a i) (at b i) (all-at P i a p) (all-at Q i b q)))
 
+-- sums of symbols are symbols
 pub sums-symbols : (m : ℕ) (a b : Tree ℕ m) → All m Symbol a → All m Symbol b → All m Symbol (map2 m _⊕_ a b)
 sums-symbols m a b p q = all-map2 Symbol Symbol Symbol _⊕_ m a b sum-lt p q
 
+-- products are
 products-symbols : (m : ℕ) (h b : Tree ℕ m) → All m Symbol (map2 m _⊙_ h b)
 products-symbols m h b = all-by Symbol m (map2 m _⊙_ h b) (λ i. subst Symbol (sym (map2-at _⊙_ i h b)) (product-lt (at h i) (at b i)))
 
+-- division by h
 quotient : ℕ → ℕ → ℕ
 quotient h c = inverse h ⊙ c
 
@@ -60,6 +64,7 @@ module _ (m : ℕ) (h b : Tree ℕ m) (p : All m NonZero h) (q : All m Symbol b)
       map2-at _⊙_ i h (map2 m quotient h b) ∙ ap (λ (x : ℕ). at h i ⊙ x) (map2-at quotient i h b)
       ∙ undoes-inverse (at h i) (at b i) (all-at NonZero i h p) (all-at Symbol i b q))
 
+-- quotients are symbols
 quotients-symbols : (m : ℕ) (h b : Tree ℕ m) → All m Symbol (map2 m quotient h b)
 unfolding quotient
 quotients-symbols m h b =
@@ -72,6 +77,7 @@ undo (suc m) h x =
     let b = map2 m quotient (h .0) (x .1) in
     (undo m (h .1) (map2 m _⊕_ (x .0) b), undo m (h .2) b)
 
+-- a tree of symbols becomes one of symbols
 pub transform-symbols : (m : ℕ) (h : Coefs m) (u : Tree ℕ m) → All m Symbol u → All m Symbol (transformTree m h u)
 unfolding transformTree join All
 transform-symbols zero h u p = p
@@ -81,6 +87,7 @@ transform-symbols (suc m) h u p =
       products-symbols m (h .0) b,
     )
 
+-- and back
 undo-symbols : (m : ℕ) (h : Coefs m) (x : Tree ℕ m) → All m Symbol x → All m Symbol (undo m h x)
 unfolding undo All
 undo-symbols zero h x p = p
@@ -89,6 +96,7 @@ undo-symbols (suc m) h x p =
     let q = quotients-symbols m (h .0) (x .1) in
     (undo-symbols m (h .1) (map2 m _⊕_ (x .0) b) (sums-symbols m (x .0) b (p .0) q), undo-symbols m (h .2) b q)
 
+-- undone after the transform
 undo-transform : (m : ℕ) (h : Coefs m) (u : Tree ℕ m) → AllNonZero m h → All m Symbol u → undo m h (transformTree m h u) ≡ u
 unfolding undo transformTree join All AllNonZero
 undo-transform zero h u g p = refl
@@ -101,6 +109,7 @@ undo-transform (suc m) h u g p =
       (ap (undo m (h .2)) q ∙ undo-transform m (h .2) (u .1) (g .2) (p .1)) i,
     )
 
+-- and before it
 transform-undo : (m : ℕ) (h : Coefs m) (x : Tree ℕ m) → AllNonZero m h → All m Symbol x → transformTree m h (undo m h x) ≡ x
 unfolding undo transformTree join All AllNonZero
 transform-undo zero h x g p = refl
@@ -116,6 +125,7 @@ transform-undo (suc m) h x g p =
 
 -- ---- on lists
 
+-- a coefficient, and the 1 past the list's end, is a symbol other than 0
 coef-nonzero : (cs : List ℕ) → Coefficients cs → (i : ℕ) → NonZero (getD cs i 1)
 coef-nonzero cs g i = go (lt-or-le i (length cs))
   where
@@ -123,6 +133,7 @@ coef-nonzero cs g i = go (lt-or-le i (length cs))
     go (inl l) = let w = g i l in record { positive = w .least; symbol = (let m = w .most in omega arith) }
     go (inr l) = subst NonZero (sym (List·getD-eq-default cs 1 l)) (record { positive = lit< tt; symbol = lit< tt })
 
+-- so are all coefficients of a block
 pub coefs-nonzero : (m start stride : ℕ) (cs : List ℕ) → Coefficients cs → AllNonZero m (coefsAt m start stride cs)
 unfolding coefsAt AllNonZero
 coefs-nonzero zero start stride cs g = tt

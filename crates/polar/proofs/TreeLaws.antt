@@ -10,6 +10,7 @@ use lib.Seq.{take-at, drop-at, length-take-le, getD-take, getD-drop}
 use Rattle.polar.specs.Tree.{Tree, map2, All, leaves, treeOf, Place, here, first, second, at, number}
 use Rattle.polar.proofs.Numbers.{two-pow, lt-or-le}
 
+-- a place's number is below 2^m
 pub number-lt : {m : ℕ} (p : Place m) → number p < 2 ^ m
 unfolding number
 number-lt here = omega arith
@@ -29,6 +30,7 @@ place-of (suc m) i l = go (lt-or-le i (2 ^ m)) (place-of m)
         let r = ih (i - 2 ^ m) (omega arith) in
         (second (r .0), ap (λ (x : ℕ). 2 ^ m + x) (r .1) ∙ omega arith)
 
+-- what `map2` gives at a place
 pub map2-at : {A B C : Type 0} {m : ℕ} (f : A → B → C) (p : Place m) (a : Tree A m) (b : Tree B m) → at (map2 m f a b) p ≡ f (at a p) (at b p)
 unfolding at map2
 map2-at f here a b = refl
@@ -36,17 +38,20 @@ map2-at f (first p) a b = map2-at f p (a .0) (b .0)
 map2-at f (second p) a b = map2-at f p (a .1) (b .1)
 
 module _ {A : Type 0} (P : A → Type 0) where
+  -- a property at each place is one of the tree
   pub all-by : (m : ℕ) (t : Tree A m) → ((p : Place m) → P (at t p)) → All m P t
   unfolding All at
   all-by zero t h = h here
   all-by (suc m) t h = (all-by m (t .0) (λ p. h (first p)), all-by m (t .1) (λ p. h (second p)))
 
+  -- and the other way round
   pub all-at : {m : ℕ} (p : Place m) (t : Tree A m) → All m P t → P (at t p)
   unfolding All at
   all-at here t h = h
   all-at (first p) t h = all-at p (t .0) (h .0)
   all-at (second p) t h = all-at p (t .1) (h .1)
 
+-- a tree of depth m has 2^m things
 pub length-leaves : (A : Type 0) (m : ℕ) (t : Tree A m) → length (leaves m t) ≡ 2 ^ m
 unfolding leaves
 length-leaves A zero t = refl
@@ -54,12 +59,14 @@ length-leaves A (suc m) t =
     length-append (leaves m (t .0)) (leaves m (t .1)) ∙ ap₂ (λ (x y : ℕ). x + y) (length-leaves A m (t .0)) (length-leaves A m (t .1)) ∙ sym (two-pow m)
 
 module _ {A : Type 0} where
+  -- trees that agree at each place are equal
   pub ext-at : (m : ℕ) (a b : Tree A m) → ((p : Place m) → at a p ≡ at b p) → a ≡ b
   unfolding at
   ext-at zero a b h = h here
   ext-at (suc m) a b h = λ i. (ext-at m (a .0) (b .0) (λ p. h (first p)) i, ext-at m (a .1) (b .1) (λ p. h (second p)) i)
 
   module _ (d : A) where
+    -- a tree's list gives the tree back
     pub treeOf-leaves : (m : ℕ) (t : Tree A m) → treeOf d m (leaves m t) ≡ t
     unfolding leaves treeOf
     treeOf-leaves zero t = refl
@@ -75,6 +82,7 @@ module _ {A : Type 0} where
     one-list (x ∷ []) e = refl
     one-list (x ∷ y ∷ xs) e = absurd (omega arith)
 
+    -- a list's tree gives the list back
     pub leaves-treeOf : (m : ℕ) (xs : List A) → length xs ≡ 2 ^ m → leaves m (treeOf d m xs) ≡ xs
     unfolding leaves treeOf
     leaves-treeOf zero xs e = one-list xs e
@@ -92,6 +100,7 @@ module _ {A : Type 0} where
     treeOf-at xs (first {m} p) = treeOf-at (take (2 ^ m) xs) p ∙ getD-take (2 ^ m) xs (number p) d (number-lt p)
     treeOf-at xs (second {m} p) = treeOf-at (drop (2 ^ m) xs) p ∙ getD-drop (2 ^ m) xs (number p) d
 
+    -- and the other way round
     pub leaves-at : {m : ℕ} (p : Place m) (t : Tree A m) → getD (leaves m t) (number p) d ≡ at t p
     leaves-at {m} p t = sym (treeOf-at (leaves m t) p) ∙ ap (λ (x : Tree A m). at x p) (treeOf-leaves m t)
 

@@ -6,10 +6,11 @@ use mathlib.Core.List.{List}
 use lib.ListN.{getD, set}
 use Rattle.gf64.specs.Field.{_⊕_, _⊙_}
 
--- the places that kernel t of layer l joins, θ and φ
+-- the first place that kernel t of layer l joins: θ
 unfoldable pub theta : (n l t : ℕ) → ℕ
 theta n l t = 2 * t - t % 2 ^ (n - l)
 
+-- and the second: φ
 unfoldable pub phi : (n l t : ℕ) → ℕ
 phi n l t = theta n l t + 2 ^ (n - l)
 

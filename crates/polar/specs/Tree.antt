@@ -3,6 +3,7 @@ use Prim.Native.Nat.{ℕ, zero, suc, _+_, _^_}
 use mathlib.Core.List.{List, [], _∷_, _++_}
 use lib.ListN.{getD, take, drop}
 
+-- one thing, or two trees of half the size
 abbrev pub Tree : Type 0 → ℕ → Type 0
 Tree A zero = A
 Tree A (suc m) = Tree A m × Tree A m

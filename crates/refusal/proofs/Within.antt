@@ -11,31 +11,38 @@ use lib.ListN.{length, getD, drop}
 use lib.Seq.{drop-cons}
 use Rattle.refusal.specs.Tests.{outside, anyOutside, unequal, Within}
 
+-- neither holds, so the first does not
 or-left : (a b : Bool) → a || b ≡ false → a ≡ false
 or-left true b e = e
 or-left false b e = refl
 
+-- nor the second
 or-right : (a b : Bool) → a || b ≡ false → b ≡ false
 or-right true b e = absurd (let z : _≡_ {A = ℕ} 0 1 = cc in omega arith)
 or-right false b e = e
 
+-- the second holds, so one does
 or-true-right : (a : Bool) {b : Bool} → b ≡ true → a || b ≡ true
 or-true-right true e = refl
 or-true-right false e = e
 
 module _ (low high : ℕ) where
+  -- a number below low is outside
   pub below-outside : (x : ℕ) → x < low → outside low high x ≡ true
   unfolding outside
   below-outside x l = ap (λ (b : Bool). b || ltb high x) (lt-ltb x low l)
 
+  -- so is one above high
   pub above-outside : (x : ℕ) → high < x → outside low high x ≡ true
   unfolding outside
   above-outside x l = or-true-right (ltb x low) (lt-ltb high x l)
 
+  -- a number within is not
   pub within-inside : (x : ℕ) → Within low high x → outside low high x ≡ false
   unfolding outside
   within-inside x w = ap₂ (λ (a b : Bool). a || b) (le-ltb x low (w .least)) (le-ltb high x (w .most))
 
+  -- and one that is not outside is within
   pub inside-within : (x : ℕ) → outside low high x ≡ false → Within low high x
   unfolding outside
   inside-within x e = record {
@@ -62,14 +69,17 @@ module _ (low high : ℕ) where
   within-none d (x ∷ xs) h =
       ap₂ (λ (a b : Bool). a || b) (within-inside x (h 0 (zero-lt-suc (length xs)))) (within-none d xs (λ i l. h (suc i) (omega arith)))
 
+-- the lengths agree: the test does not fit
 pub equal-false : (a b : ℕ) → a ≡ b → unequal a b ≡ false
 unfolding unequal
 equal-false a b e = ap not (eq-eqb a b e)
 
+-- they do not: it fits
 pub unequal-true : (a b : ℕ) → (a ≡ b → ⊥) → unequal a b ≡ true
 unfolding unequal
 unequal-true a b h = ap not (ne-eqb a b h)
 
+-- it does not fit: they agree
 pub false-equal : (a b : ℕ) → unequal a b ≡ false → a ≡ b
 unfolding unequal
 false-equal a b e = eqb-true a b (not-false (eqb a b) e)
