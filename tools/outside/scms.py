@@ -1,7 +1,8 @@
 """SC-MS over GF(64), written directly from the scope paper.
 
-This is a second, independent statement of the rules, used to compute expected
-results for tests.  It keeps the paper's own names and indices and makes no
+This is a second statement of the rules, written without sight of the proved
+code, used to compute expected results for tests; docs/DECISIONS.md says which
+readings of open points it was given.  It keeps the paper's own names and indices and makes no
 attempt to be fast.  Symbols, map bytes and coefficients are plain integers in
 lists.
 

@@ -7,7 +7,7 @@ use native.Mathlib.Omega.{arith}
 use native.Mathlib.Nat.{le-refl}
 use lib.ListN.{length, getD, set, length-set}
 use Rattle.gf64.specs.Field.{_⊕_, _⊙_}
-use Rattle.polar.specs.Transform.{theta, phi, coefficient, kernel, kernels, layer, layers}
+use Rattle.polar.specs.Transform.{theta, phi, coefficient, kernel, kernels, layer, layers, Turned}
 use Rattle.polar.proofs.Numbers.{lt-or-le, both-first, both-second, both-other}
 use Rattle.polar.proofs.Kernels.{theta-theta, theta-phi, phi-phi, theta-lt-phi, phi-lt}
 
@@ -30,11 +30,6 @@ pub layers-long : (n k : ℕ) (cs u : List ℕ) → length (layers n k cs u) ≡
 unfolding layers
 layers-long n zero cs u = refl
 layers-long n (suc k) cs u = layer-long n (n - k) cs (layers n k cs u) ∙ layers-long n k cs u
-
--- kernel t has turned the word x into y at its two places
-pub record Turned (n l t : ℕ) (cs x y : List ℕ) : Type 0 where
-  pub sum : getD y (theta n l t) 0 ≡ getD x (theta n l t) 0 ⊕ getD x (phi n l t) 0
-  pub scaled : getD y (phi n l t) 0 ≡ coefficient n l t cs ⊙ getD x (phi n l t) 0
 
 -- kernel t has left both
 record Kept (n l t : ℕ) (x y : List ℕ) : Type 0 where

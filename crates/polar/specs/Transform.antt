@@ -49,3 +49,8 @@ pub record OneKernel (n l j : ℕ) : Type 0 where
   pub below : number < 2 ^ n / 2
   pub joins : (theta n l number ≡ j) ⊎ (phi n l number ≡ j)
   pub only : (t : ℕ) → (theta n l t ≡ j) ⊎ (phi n l t ≡ j) → t ≡ number
+
+-- kernel t of layer l has turned the word x into y at its two places
+pub record Turned (n l t : ℕ) (cs x y : List ℕ) : Type 0 where
+  pub sum : getD y (theta n l t) 0 ≡ getD x (theta n l t) 0 ⊕ getD x (phi n l t) 0
+  pub scaled : getD y (phi n l t) 0 ≡ coefficient n l t cs ⊙ getD x (phi n l t) 0

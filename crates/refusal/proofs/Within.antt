@@ -1,9 +1,10 @@
 -- What the tests of `Tests` say of the numbers tested.
-use mathlib.Core.Path.{_≡_, refl, ap, ap₂}
+use mathlib.Core.Path.{_≡_, refl, sym, ap, ap₂, _∙_}
 use mathlib.Core.Bool.{Bool, true, false, not, _||_}
 use mathlib.Core.List.{List, [], _∷_}
-use Prim.Native.Nat.{ℕ, zero, suc, _<_}
+use Prim.Native.Nat.{ℕ, zero, suc, _+_, _<_}
 use native.Mathlib.Nat.{le-of-suc-le-suc, not-suc-le-zero, zero-lt-suc}
+use native.Mathlib.Numerals.{add-one}
 use native.Mathlib.Omega.{arith}
 use borrow.Author.Tests.{lt-ltb, le-ltb, ltb-false, eqb-true, eq-eqb, ne-eqb, not-false}
 use lib.Dec.{ltb, eqb}
@@ -51,9 +52,19 @@ module _ (low high : ℕ) where
   }
 
   -- the numbers from place i on: the one there, and those after it
-  pub any-from : (xs : List ℕ) (i : ℕ) → i < length xs → anyOutside low high (drop i xs) ≡ outside low high (getD xs i 0) || anyOutside low high (drop (suc i) xs)
-  unfolding anyOutside
-  any-from xs i l = ap (anyOutside low high) (drop-cons xs i 0 l)
+  module _ (xs : List ℕ) (i : ℕ) (l : i < length xs) where
+    any-from : anyOutside low high (drop i xs) ≡ outside low high (getD xs i 0) || anyOutside low high (drop (suc i) xs)
+    unfolding anyOutside
+    any-from = ap (anyOutside low high) (drop-cons xs i 0 l)
+
+    -- the one there is outside: one is
+    pub any-found : outside low high (getD xs i 0) ≡ true → anyOutside low high (drop i xs) ≡ true
+    any-found e = any-from ∙ ap (λ (t : Bool). t || anyOutside low high (drop (suc i) xs)) e
+
+    -- it is not: go on with those after it
+    pub any-passed : outside low high (getD xs i 0) ≡ false → anyOutside low high (drop i xs) ≡ anyOutside low high (drop (i + 1) xs)
+    any-passed e =
+        any-from ∙ ap₂ (λ (t : Bool) (k : ℕ). t || anyOutside low high (drop k xs)) e (sym (add-one i))
 
   -- no number is outside: each place holds one within
   pub none-within : (d : ℕ) (xs : List ℕ) → anyOutside low high xs ≡ false → (i : ℕ) → i < length xs → Within low high (getD xs i d)

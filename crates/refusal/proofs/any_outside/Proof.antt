@@ -1,13 +1,12 @@
 -- `any_outside` meets its contract: what is found in the bytes from i on is what is found in all of them.
-use mathlib.Core.Path.{_≡_, refl, sym, ap, ap₂, _∙_}
-use mathlib.Core.Bool.{Bool, _||_}
-use Prim.Native.Nat.{ℕ, suc, _≤_, _-_}
-use native.Mathlib.Numerals.{add-one}
+use mathlib.Core.Path.{_≡_, refl, sym, ap, _∙_}
+use mathlib.Core.Bool.{true}
+use Prim.Native.Nat.{_≤_, _-_}
 use native.Mathlib.Omega.{arith}
 use borrow.Author.Needs.{needs}
 use lib.ListN.{length, getD, drop, drop-of-length-le}
-use Rattle.refusal.specs.Tests.{anyOutside}
-use Rattle.refusal.proofs.Within.{below-outside, above-outside, within-inside, any-from}
+use Rattle.refusal.specs.Tests.{outside, anyOutside}
+use Rattle.refusal.proofs.Within.{below-outside, above-outside, within-inside, any-found, any-passed}
 use Rattle.refusal.proofs.any_outside.Statement.{statement}
 use Rattle.refusal.proofs.any_outside.Tie as tie
 
@@ -23,21 +22,19 @@ loop-holds c = (omega arith, refl)
 shared-slice-read-x : tie.Need-shared-slice-read-x Inv-loop μ-loop
 shared-slice-read-x c = search needs
 
+-- the byte at i is outside, so some byte is
+found : (c : tie.After-shared-slice-known Inv-loop μ-loop) → let a = c .before .before .before .args in
+    outside (a .low) (a .high) (getD (a .s .now) (c .before .before .loop .i) 0) ≡ true → true ≡ anyOutside (a .low) (a .high) (a .s .now)
+found c e =
+    let a = c .before .before .before .args in
+    let at = c .before .before .loop in
+    sym (at .inv .1 ∙ any-found (a .low) (a .high) (a .s .now) (at .i) (search needs) e)
+
 returns : tie.Need-returns Inv-loop μ-loop
-returns c =
-    let a = c .before .before .before .before .args in
-    let at = c .before .before .before .loop in
-    sym
-    (at .inv .1 ∙ any-from (a .low) (a .high) (a .s .now) (at .i) (search needs)
-    ∙ ap (λ (t : Bool). t || anyOutside (a .low) (a .high) (drop (suc (at .i)) (a .s .now))) (below-outside (a .low) (a .high) (getD (a .s .now) (at .i) 0) (c .if1 .taken)))
+returns c = found (c .before) (below-outside _ _ _ (c .if1 .taken))
 
 returns-2 : tie.Need-returns-2 Inv-loop μ-loop
-returns-2 c =
-    let a = c .before .before .before .before .before .args in
-    let at = c .before .before .before .before .loop in
-    sym
-    (at .inv .1 ∙ any-from (a .low) (a .high) (a .s .now) (at .i) (search needs)
-    ∙ ap (λ (t : Bool). t || anyOutside (a .low) (a .high) (drop (suc (at .i)) (a .s .now))) (above-outside (a .low) (a .high) (getD (a .s .now) (at .i) 0) (c .if2 .taken)))
+returns-2 c = found (c .before .before) (above-outside _ _ _ (c .if2 .taken))
 
 add-i : tie.Need-add-i Inv-loop μ-loop
 add-i c = search needs
@@ -50,10 +47,8 @@ loop-again c =
     let a = c .before .before .before .before .before .args in
     let at = c .before .before .before .before .loop in (
       search needs,
-      at .inv .1 ∙ any-from (a .low) (a .high) (a .s .now) (at .i) (search needs)
-          ∙ ap₂ (λ (t : Bool) (k : ℕ). t || anyOutside (a .low) (a .high) (drop k (a .s .now)))
-          (within-inside (a .low) (a .high) (getD (a .s .now) (at .i) 0) (record { least = c .before .if1 .left; most = c .if2 .left }))
-          (sym (add-one (at .i))),
+      at .inv .1 ∙ any-passed (a .low) (a .high) (a .s .now) (at .i) (search needs)
+          (within-inside _ _ _ (record { least = c .before .if1 .left; most = c .if2 .left })),
     )
 
 returns-3 : tie.Need-returns-3 Inv-loop μ-loop

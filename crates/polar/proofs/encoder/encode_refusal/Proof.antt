@@ -100,7 +100,9 @@ mul-if4 c =
     omega arith
 
 returns-4 : tie.Need-returns-4
-returns-4 c = ends (s3 (c .before)) (past3 (c .before) (here (unequal-true _ _ (λ q. c .if4 .taken (q ∙ ap (λ (x : ℕ). s3 (c .before) .args .n * (x / 2)) (sym (c .before .before .word-length .ensures)))))))
+returns-4 c =
+    let size = ap (λ (x : ℕ). s3 (c .before) .args .n * (x / 2)) (c .before .before .word-length .ensures) in
+    ends (s3 (c .before)) (past3 (c .before) (here (unequal-true _ _ (λ q. c .if4 .taken (q ∙ sym size)))))
 
 message-places-requires : tie.Need-message-places-requires
 message-places-requires c κs = search needs

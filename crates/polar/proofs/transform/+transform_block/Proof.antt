@@ -1,6 +1,6 @@
 -- `transform_block` meets its contract: the halves are transformed, one layer less each, and then joined (BlockLaws).
 use mathlib.Core.Path.{_≡_, sym, _∙_}
-use Prim.Native.Nat.{ℕ, _-_, _<_}
+use Prim.Native.Nat.{ℕ, _+_, _-_, _≤_, _<_}
 use native.Mathlib.Omega.{arith}
 use borrow.Author.Needs.{needs}
 use borrow.Fn.Kinds.{In}
@@ -32,17 +32,25 @@ calls t = (below t, block-reads.Post, join-reads.Asked, join-reads.Learnt)
 abbrev else-start : (t : ℕ) → lts.Else1 (calls t) (given t) block-reads.Post → lts.Start (calls t) (given t) block-reads.Post
 else-start t c = c .before .before .before
 
+-- the number of layers falls at each call
 fewer : (layers t : ℕ) → (layers ≡ 0 → ⊥) → layers ≡ t → layers - 1 < t
 fewer layers t ne e = omega arith
 
 returns : (t : ℕ) → lts.Need-returns (calls t) (given t) block-reads.Post
 returns t c = at-leaf (c .if1 .taken) (c .before .before .before .pre .1)
 
+-- where the halves' coefficients begin is a small number
+starts-small : (t : ℕ) (c : lts.Else1 (calls t) (given t) block-reads.Post) → let a = (else-start t c) .args in a .start + a .stride + a .half ≤ 1280
+starts-small t c =
+    let z = at-sizes (c .if1 .left) ((else-start t c) .pre .1) in
+    let l = (else-start t c) .pre .1 .stride-small in
+    omega arith
+
 add-first : (t : ℕ) → lts.Need-add-first (calls t) (given t) block-reads.Post
-add-first t c = let z = at-sizes (c .if1 .left) ((else-start t c) .pre .1) in let l = (else-start t c) .pre .1 .stride-small in omega arith
+add-first t c = let l = starts-small t c in omega arith
 
 add-second : (t : ℕ) → lts.Need-add-second (calls t) (given t) block-reads.Post
-add-second t c = let z = at-sizes (c .if1 .left) ((else-start t c) .pre .1) in let l = (else-start t c) .pre .1 .stride-small in omega arith
+add-second t c = let l = starts-small t c in omega arith
 
 sub-first : (t : ℕ) → lts.Need-sub-transform-block (calls t) (given t) block-reads.Post
 sub-first t c = search needs
