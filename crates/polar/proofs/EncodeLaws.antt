@@ -1,17 +1,16 @@
 -- What it means that `encode` takes its input, and what it then has to hand its parts.
 use mathlib.Core.Path.{_≡_, refl, sym, ap, ap₂, _∙_, subst}
-use mathlib.Core.Bool.{Bool, cond}
 use mathlib.Core.Logic.{_⊎_, inl, inr}
 use mathlib.Core.List.{List}
 use Prim.Native.Nat.{ℕ, zero, suc, _+_, _*_, _/_, _^_, _≤_, _<_}
 use native.Mathlib.Nat.{mul-le-mul}
 use native.Mathlib.Omega.{arith}
-use borrow.Author.Tests.{eq-eqb, ne-eqb, eqb-false}
+use borrow.Author.Tests.{ne-eqb, eqb-false}
 use lib.Dec.{lit<}
 use lib.ListN.{length, getD, List·getD-eq-default}
 use lib.Pow.{pow-mono}
 use Rattle.refusal.specs.Table.{Numbered}
-use Rattle.refusal.proofs.Laws.{taken-none, none-taken}
+use Rattle.refusal.proofs.Laws.{taken-none, none-taken, when-taken, when-refused}
 use Rattle.refusal.proofs.Within.{inside-within, within-inside, none-within, within-none, false-equal, equal-false}
 use Rattle.polar.specs.Code.{messagePlaces, IsWord}
 use Rattle.polar.specs.Encode.{wordBefore, codewordOf, encodeTable, encodeRefusal, encodeBuffer, Encodable}
@@ -79,12 +78,12 @@ module _ (n : ℕ) (map cs symbols buffer : List ℕ) where
   -- the buffer where the input is taken, and where it is refused
   pub buffer-taken : encodeRefusal n map cs symbols buffer ≡ 0 → encodeBuffer n map cs symbols buffer ≡ codewordOf n map cs symbols
   unfolding encodeBuffer
-  buffer-taken e = ap (λ (t : Bool). cond t (codewordOf n map cs symbols) buffer) (eq-eqb _ 0 e)
+  buffer-taken e = when-taken _ _ buffer e
 
   -- refused: what it held
   pub buffer-refused : (encodeRefusal n map cs symbols buffer ≡ 0 → ⊥) → encodeBuffer n map cs symbols buffer ≡ buffer
   unfolding encodeBuffer
-  buffer-refused h = ap (λ (t : Bool). cond t (codewordOf n map cs symbols) buffer) (ne-eqb _ 0 h)
+  buffer-refused h = when-refused _ (codewordOf n map cs symbols) buffer h
 
 -- the coefficients of a block of 2^m places are among `all`, if those of its last layer are
 room-at : (m start stride all : ℕ) → start + m * stride + 2 ^ m / 2 ≤ all + stride → Room m start stride all

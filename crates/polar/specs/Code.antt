@@ -7,7 +7,7 @@ use mathlib.Core.List.{List, [], _∷_}
 use lib.Dec.{eqb}
 use lib.ListN.{length, getD}
 use Rattle.refusal.specs.Table.{Row}
-use Rattle.refusal.specs.Tests.{outside, anyOutside, unequal, Within}
+use Rattle.refusal.specs.Tests.{outside, anyOutside, Within}
 
 -- what a place before the transform holds: a message symbol, or always the same symbol
 pub data Kind : Type 0 where
@@ -31,10 +31,6 @@ messagePlaces (byte ∷ map) = messageCount (kindOf byte) + messagePlaces map
 -- 1: n outside 1 to 8
 abbrev pub layersRow : ℕ → Row
 layersRow n = (1, outside 1 8 n)
-
--- 2: a slice has a length other than needed
-abbrev pub lengthRow : List ℕ → ℕ → Row
-lengthRow xs needed = (2, unequal (length xs) needed)
 
 -- 4: a map byte above 1
 abbrev pub mapRow : List ℕ → Row

@@ -6,8 +6,9 @@ use mathlib.Core.List.{List, [], _∷_}
 use lib.Dec.{eqb}
 use lib.ListN.{length, getD, drop}
 use Rattle.refusal.specs.Table.{Row, refusalOf}
-use Rattle.refusal.specs.Tests.{anyOutside, Within}
-use Rattle.polar.specs.Code.{Kind, message, frozen, kindOf, messagePlaces, layersRow, lengthRow, mapRow, emptyRow, coefsRow, IsCode}
+use Rattle.refusal.specs.Tests.{Within}
+use Rattle.refusal.specs.Rows.{lengthRow, symbolsRow}
+use Rattle.polar.specs.Code.{Kind, message, frozen, kindOf, messagePlaces, layersRow, mapRow, emptyRow, coefsRow, IsCode}
 use Rattle.polar.specs.Transform.{transform}
 
 -- what a place of a kind holds: the next message symbol, or its own
@@ -29,18 +30,14 @@ wordBefore (byte ∷ map) symbols = symbolAt (kindOf byte) symbols ∷ wordBefor
 unfoldable pub codewordOf : (n : ℕ) → List ℕ → List ℕ → List ℕ → List ℕ
 codewordOf n map cs symbols = transform n cs (wordBefore map symbols)
 
--- 7: a symbol to encode above 63
-abbrev pub symbolsRow : List ℕ → Row
-symbolsRow symbols = (7, anyOutside 0 63 symbols)
-
 -- the rows of document 01's table that `encode` has the input for, in its order
 abbrev pub encodeTable : (n : ℕ) → List ℕ → List ℕ → List ℕ → List ℕ → List Row
 encodeTable n map cs symbols buffer =
     layersRow n
-    ∷ lengthRow map (2 ^ n)
-    ∷ lengthRow cs (n * (2 ^ n / 2))
-    ∷ lengthRow symbols (messagePlaces map)
-    ∷ lengthRow buffer (2 ^ n)
+    ∷ lengthRow (length map) (2 ^ n)
+    ∷ lengthRow (length cs) (n * (2 ^ n / 2))
+    ∷ lengthRow (length symbols) (messagePlaces map)
+    ∷ lengthRow (length buffer) (2 ^ n)
     ∷ mapRow map
     ∷ emptyRow map
     ∷ coefsRow cs

@@ -4,6 +4,8 @@ use mathlib.Core.Bool.{Bool, true, false, cond}
 use mathlib.Core.List.{List, [], _∷_}
 use Prim.Native.Nat.{ℕ}
 use native.Mathlib.Omega.{arith}
+use borrow.Author.Tests.{eq-eqb, ne-eqb}
+use lib.Dec.{eqb}
 use Rattle.refusal.specs.Table.{Row, refusalOf, NoneFits, Numbered}
 
 -- the walk down the table that ends at k: past each row that does not fit, to the first that does or to the end
@@ -43,3 +45,12 @@ taken-none rs p e = walked (subst (Finds rs) e (refusal-finds rs)) p refl
     walked none n z = tt
     walked (here q) n z = absurd (let l = n .0 in omega arith)
     walked (later q w) n z = (q, walked w (n .1) z)
+
+-- what a call leaves where it takes its input, and where it refuses it
+module _ {A : Type 0} (r : ℕ) (made kept : A) where
+  pub when-taken : r ≡ 0 → cond (eqb r 0) made kept ≡ made
+  when-taken e = ap (λ (t : Bool). cond t made kept) (eq-eqb r 0 e)
+
+  -- refused: as it came
+  pub when-refused : (r ≡ 0 → ⊥) → cond (eqb r 0) made kept ≡ kept
+  when-refused h = ap (λ (t : Bool). cond t made kept) (ne-eqb r 0 h)

@@ -1,6 +1,16 @@
 // Refusals: the tests that several calls share. The table that picks the number is a definition, in specs/Table.antt.
 ghost use mathlib.Core.Path.{_≡_};
-ghost use Rattle.refusal.specs.Tests.{anyOutside};
+ghost use Rattle.refusal.specs.Tests.{outside, anyOutside};
+
+// Whether x is below low or above high.
+pub fn is_outside(x: u32, low: u32, high: u32) -> bool
+    ensures { λ r. ⌜ r ≡ outside low high x ⌝ }
+{
+    if x < low {
+        return true;
+    }
+    high < x
+}
 
 // Whether some byte of s is below low or above high.
 pub fn any_outside(s: &[u8], low: u8, high: u8) -> bool

@@ -1,0 +1,23 @@
+-- `turned` meets its contract: the two shifts, joined, are the number turned (ChipLaws).
+use mathlib.Core.Path.{_≡_, refl, sym, ap, ap₂, _∙_, subst}
+use Rattle.ccsk.proofs.ChipLaws.{shifted}
+use borrow.Author.Needs.{needs}
+use Rattle.ccsk.proofs.chips.turned.Statement.{statement}
+use Rattle.ccsk.proofs.chips.turned.Tie as tie
+use Rattle.ccsk.proofs.chips.turned.Reads as reads
+use Rattle.ccsk.proofs.chips.turned.Lts as lts
+
+sub-up : tie.Need-sub-up
+sub-up c = search needs
+
+shr-result : tie.Need-shr-result
+shr-result c = search needs
+
+shl-result : tie.Need-shl-result
+shl-result c = search needs
+
+returns : tie.Need-returns
+returns c = shifted (c .args .base) (c .args .s) (c .fits .base .fits)
+
+pub turned-spec : {M : Type 1} → statement M
+turned-spec = tie.close (tie.spec sub-up shr-result shl-result returns)

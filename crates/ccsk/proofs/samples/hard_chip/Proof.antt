@@ -1,0 +1,22 @@
+-- `hard_chip` meets its contract.
+use mathlib.Core.Path.{_≡_, refl, sym, ap, ap₂, _∙_, subst}
+use mathlib.Core.Bool.{Bool, cond}
+use Prim.Native.Nat.{ℕ}
+use Rattle.ccsk.specs.Samples.{hardChip}
+use Rattle.ccsk.proofs.SignedLaws.{sign}
+use borrow.Author.Needs.{needs}
+use Rattle.ccsk.proofs.samples.hard_chip.Statement.{statement}
+use Rattle.ccsk.proofs.samples.hard_chip.Tie as tie
+use Rattle.ccsk.proofs.samples.hard_chip.Reads as reads
+use Rattle.ccsk.proofs.samples.hard_chip.Lts as lts
+
+returns : tie.Need-returns
+unfolding hardChip
+returns c = sym (ap (λ (b : Bool). cond {A = ℕ} b 1 0) (sign (c .before .args .sample) (c .before .fits .sample) (c .if1 .taken)))
+
+returns-2 : tie.Need-returns-2
+unfolding hardChip
+returns-2 c = sym (ap (λ (b : Bool). cond {A = ℕ} b 1 0) (sign (c .before .args .sample) (c .before .fits .sample) (c .if1 .left)))
+
+pub hard-chip-spec : {M : Type 1} → statement M
+hard-chip-spec = tie.close (tie.spec returns returns-2)

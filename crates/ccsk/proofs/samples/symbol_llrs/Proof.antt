@@ -1,0 +1,32 @@
+-- `symbol_llrs` meets its contract: what its parts ensure, put together.
+use mathlib.Core.Path.{_≡_, refl, sym, ap, ap₂, _∙_, subst}
+use mathlib.Core.List.{List}
+use Prim.Native.Nat.{ℕ}
+use Rattle.vector.specs.Vector.{lessLeast}
+use Rattle.ccsk.specs.Samples.{quantisedLlrs}
+use borrow.Author.Needs.{needs}
+use Rattle.ccsk.proofs.samples.symbol_llrs.Statement.{statement}
+use Rattle.ccsk.proofs.samples.symbol_llrs.Tie as tie
+use Rattle.ccsk.proofs.samples.symbol_llrs.Reads as reads
+use Rattle.ccsk.proofs.samples.symbol_llrs.Lts as lts
+use Rattle.ccsk.proofs.samples.quantise.Reads as quantise-reads
+use Rattle.ccsk.proofs.samples.raw_llrs.Reads as raw-llrs-reads
+use Rattle.vector.proofs.subtract_least.Reads as subtract-least-reads
+
+raw-llrs-requires : tie.Need-raw-llrs-requires
+raw-llrs-requires c κs = search needs
+
+subtract-least-requires : tie.Need-subtract-least-requires
+subtract-least-requires c κs = search needs
+
+quantise-requires : tie.Need-quantise-requires
+quantise-requires c κs = search needs
+
+returns : tie.Need-returns
+returns c =
+    let a = c .before .before .before .before .before .args in
+    c .quantise .ensures ∙ ap (λ (v : List ℕ). quantisedLlrs (a .top) (a .bottom) (a .qc) v) (c .before .before .subtract-least .ensures ∙ ap lessLeast (c .before .before .before .before .raw-llrs .ensures))
+
+pub symbol-llrs-spec : {M : Type 1} → statement M
+symbol-llrs-spec =
+    tie.close (tie.spec raw-llrs-requires subtract-least-requires quantise-requires returns)

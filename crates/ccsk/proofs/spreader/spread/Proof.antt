@@ -1,0 +1,52 @@
+-- `spread` meets its contract: on a refusal nothing is written, and else its part writes all (SpreadLaws).
+use mathlib.Core.Path.{_≡_, refl, sym, ap, ap₂, _∙_, subst}
+use Rattle.ccsk.specs.Spread.{spreadRefusal}
+use Rattle.ccsk.proofs.SpreadLaws.{taken, buffer-taken, buffer-refused}
+use borrow.Author.Needs.{needs}
+use Rattle.ccsk.proofs.spreader.spread.Statement.{statement}
+use Rattle.ccsk.proofs.spreader.spread.Tie as tie
+use Rattle.ccsk.proofs.spreader.spread.Reads as reads
+use Rattle.ccsk.proofs.spreader.spread.Lts as lts
+use Rattle.ccsk.proofs.spreader.spread_refusal.Reads as spread-refusal-reads
+use Rattle.ccsk.proofs.spreader.write_numbers.Reads as write-numbers-reads
+
+-- the entry, from the place where nothing is refused
+abbrev entry : tie.Else1 → tie.Start
+entry c = c .before .before .before .before .before
+
+-- there the input is taken
+none-fits : (c : tie.Else1) → spreadRefusal (entry c .args .base) (entry c .args .symbols .now) (entry c .args .numbers .now) ≡ 0
+none-fits c = sym (c .before .spread-refusal .ensures) ∙ c .if1 .left
+
+spread-refusal-requires : tie.Need-spread-refusal-requires
+spread-refusal-requires c κs = search needs
+
+same-length : tie.Need-same-length
+same-length c = search needs
+
+returns : tie.Need-returns
+returns c =
+    let e = c .before .spread-refusal .ensures in
+    record { answer = e; numbers = sym (buffer-refused _ _ _ (λ z. c .if1 .taken (e ∙ z))) }
+
+write-numbers-requires : tie.Need-write-numbers-requires
+write-numbers-requires c κs = taken _ _ _ (none-fits (c .before)) .buffer-long
+
+same-length-2 : tie.Need-same-length-2
+same-length-2 c = search needs
+
+returns-2 : tie.Need-returns-2
+returns-2 c =
+    let z = none-fits (c .before .before .before .before) in
+    record { answer = sym z; numbers = c .before .before .write-numbers .ensures ∙ sym (buffer-taken _ _ _ z) }
+
+pub spread-spec : {M : Type 1} → statement M
+spread-spec =
+    tie.close
+    (tie.spec
+    spread-refusal-requires
+    same-length
+    returns
+    write-numbers-requires
+    same-length-2
+    returns-2)

@@ -1,0 +1,27 @@
+// The chips of the base sequence.
+ghost use mathlib.Core.Path.{_≡_};
+ghost use Rattle.ccsk.specs.Parts.{chipsTwice};
+ghost use Rattle.ccsk.specs.Chips.{turned};
+
+// The base turned by s chips: chip k of the result is base chip (k + s) mod 64.
+pub(crate) fn turned(base: u64, s: u64) -> u64
+    ensures { λ r. ⌜ r ≡ turned base s ⌝ }
+{
+    let down = s % 64;
+    let up = (64 - down) % 64;
+    (base >> down) | (base << up)
+}
+
+// The chips of the base twice over, 0 or 1 each, so that the chips of a symbol s are 64 neighbours from s on.
+pub(crate) fn chips_twice(base: u64) -> [u16; 128]
+    ensures { λ r. ⌜ r ≡ chipsTwice base ⌝ }
+{
+    let mut chips = [0u16; 128];
+    let mut j: usize = 0;
+    while j < 128 {
+        let k = (j % 64) as u64;
+        chips[j] = ((base >> k) % 2) as u16;
+        j += 1;
+    }
+    chips
+}

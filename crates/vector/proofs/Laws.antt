@@ -1,0 +1,209 @@
+-- The laws of tabulated lists, of sums and of the least by index.
+use mathlib.Core.Path.{_≡_, refl, sym, ap, ap₂, _∙_, subst}
+use mathlib.Core.Logic.{_⊎_, inl, inr}
+use mathlib.Core.List.{List, [], _∷_, _++_, map}
+use Prim.Native.Nat.{ℕ, zero, suc, _+_, _-_, _*_, _≤_, _<_, min, suc-le-suc}
+use native.Mathlib.Nat.{add-zero, zero-add, add-suc, suc-add, add-comm, add-assoc, mul-zero, mul-add, mul-le-mul-left, le-of-suc-le-suc, not-suc-le-zero, eq-or-lt-of-le, min-le-left, min-le-right, min-eq-left, min-eq-right, le-trans, le-refl, le-of-lt, le-of-eq, mul-suc}
+use native.Mathlib.Decide.{decLt}
+use native.Mathlib.Numerals.{add-one}
+use native.Mathlib.Omega.{arith}
+use lib.ListN.{length, getD, take, drop, set, length-append, length-drop, length-set}
+use lib.Seq.{take-all, drop-at, take-append-le, drop-append-le, ext-getD, getD-set-same, getD-set-other}
+use Rattle.vector.specs.Vector.{tabulate, joined, sumTo, leastTo, least, lessLeast}
+
+module _ {A : Type 0} where
+  -- a tabulated list has as many entries as it was given
+  pub length-tabulate : (n : ℕ) (f : ℕ → A) → length (tabulate n f) ≡ n
+  unfolding tabulate
+  length-tabulate zero f = refl
+  length-tabulate (suc n) f = ap suc (length-tabulate n (λ i. f (suc i)))
+
+  -- its entry i is f i
+  pub getD-tabulate : (d : A) (n : ℕ) (f : ℕ → A) (i : ℕ) → i < n → getD (tabulate n f) i d ≡ f i
+  unfolding tabulate
+  getD-tabulate d zero f i l = absurd (not-suc-le-zero l)
+  getD-tabulate d (suc n) f zero l = refl
+  getD-tabulate d (suc n) f (suc i) l = getD-tabulate d n (λ j. f (suc j)) i (le-of-suc-le-suc l)
+
+  -- a list is the tabulated one if its entries are
+  pub tabulate-by : (d : A) (n : ℕ) (f : ℕ → A) (xs : List A) → length xs ≡ n → ((i : ℕ) → i < n → getD xs i d ≡ f i) → xs ≡ tabulate n f
+  tabulate-by d n f xs e h =
+      ext-getD d xs (tabulate n f) (e ∙ sym (length-tabulate n f)) (λ i l. let s : i < n = omega arith in h i s ∙ sym (getD-tabulate d n f i s))
+
+  -- two tabulated lists are equal by their entries
+  pub tabulate-ext : (n : ℕ) (f g : ℕ → A) → ((i : ℕ) → i < n → f i ≡ g i) → tabulate n f ≡ tabulate n g
+  unfolding tabulate
+  tabulate-ext zero f g h = refl
+  tabulate-ext (suc n) f g h =
+      ap₂ (λ (x : A) (xs : List A). x ∷ xs) (h 0 (omega arith)) (tabulate-ext n (λ i. f (suc i)) (λ i. g (suc i)) (λ i l. h (suc i) (omega arith)))
+
+-- lists of w entries each, one after the other
+module _ {A : Type 0} (w : ℕ) (f : ℕ → List A) (long : (i : ℕ) → length (f i) ≡ w) where
+  -- they have w entries for each
+  pub length-joined : (n : ℕ) → length (joined n f) ≡ w * n
+  unfolding joined
+  length-joined zero = sym (mul-zero w)
+  length-joined (suc n) = length-append (joined n f) (f n) ∙ ap₂ (λ (a b : ℕ). a + b) (length-joined n) (long n) ∙ sym (mul-suc w n)
+
+  -- the w entries from w × i on are list i
+  pub joined-part : (n i : ℕ) → i < n → take w (drop (w * i) (joined n f)) ≡ f i
+  unfolding joined
+  joined-part zero i l = absurd (not-suc-le-zero l)
+  joined-part (suc n) i l = go (joined-part n i) (eq-or-lt-of-le (le-of-suc-le-suc l))
+    where
+      go : (i < n → take w (drop (w * i) (joined n f)) ≡ f i) → (i ≡ n) ⊎ (i < n) → take w (drop (w * i) (joined n f ++ f n)) ≡ f i
+      go ih (inl e) =
+          ap (λ (j : ℕ). take w (drop (w * j) (joined n f ++ f n))) e
+          ∙ ap (take w) (drop-at (joined n f) (f n) (w * n) (length-joined n))
+          ∙ take-all w (f n) (le-of-eq (long n)) ∙ ap f (sym e)
+      go ih (inr s) =
+          let a = length-joined n in
+          let b = mul-le-mul-left w s in
+          let c = mul-suc w i in
+          let d = length-drop (w * i) (joined n f) in
+          ap (take w) (drop-append-le (w * i) (joined n f) (f n) (omega arith))
+          ∙ take-append-le w (drop (w * i) (joined n f)) (f n) (omega arith)
+          ∙ ih s
+
+-- a function of each entry of a list
+pub tabulate-map : {B : Type 0} (d : ℕ) (f : ℕ → B) (xs : List ℕ) → tabulate (length xs) (λ i. f (getD xs i d)) ≡ map f xs
+unfolding tabulate
+tabulate-map d f [] = refl
+tabulate-map d f (x ∷ xs) = ap (λ (ys : List _). f x ∷ ys) (tabulate-map d f xs)
+
+-- a loop that fills a list of n numbers in rising order: those before b are f's
+pub record Filled (n : ℕ) (f : ℕ → ℕ) (xs : List ℕ) (b : ℕ) : Type 0 where
+  pub within : b ≤ n
+  pub long : length xs ≡ n
+  pub entries : (i : ℕ) → i < b → getD xs i 0 ≡ f i
+
+-- where it begins
+pub fill-none : {n : ℕ} {f : ℕ → ℕ} {xs : List ℕ} → length xs ≡ n → Filled n f xs 0
+fill-none e = record { within = omega arith; long = e; entries = λ i l. absurd (not-suc-le-zero l) }
+
+-- one number more
+pub fill-more : {n : ℕ} {f : ℕ → ℕ} {xs : List ℕ} {b x : ℕ} → Filled n f xs b → b < n → x ≡ f b → Filled n f (set xs b x) (b + 1)
+fill-more {n} {f} {xs} {b} {x} h l e = record { within = omega arith; long = length-set xs b x ∙ h .long; entries = λ i s. go i s (decLt i b) }
+  where
+    go : (i : ℕ) → i < b + 1 → Dec (i < b) → getD (set xs b x) i 0 ≡ f i
+    go i s (yes t) = getD-set-other xs b i x 0 (λ q. absurd (omega arith)) ∙ h .entries i t
+    go i s (no t) =
+        let q : b ≡ i = omega arith in
+        let w : b < length xs = (let k = h .long in omega arith) in
+        subst (λ (j : ℕ). getD (set xs b x) j 0 ≡ f j) q (getD-set-same xs b x 0 w ∙ e)
+
+-- where it ends the list is the tabulated one
+pub fill-all : {n : ℕ} {f : ℕ → ℕ} {xs : List ℕ} {b : ℕ} → Filled n f xs b → n ≤ b → xs ≡ tabulate n f
+fill-all {n} {f} {xs} {b} h l = tabulate-by 0 n f xs (h .long) (λ i s. h .entries i (omega arith))
+
+-- sums are equal by their terms
+pub sum-ext : (n : ℕ) (f g : ℕ → ℕ) → ((i : ℕ) → i < n → f i ≡ g i) → sumTo n f ≡ sumTo n g
+unfolding sumTo
+sum-ext zero f g h = refl
+sum-ext (suc n) f g h = ap₂ (λ (a b : ℕ). a + b) (sum-ext n f g (λ i l. h i (omega arith))) (h n (le-refl (suc n)))
+
+-- one term more
+pub sum-more : (n : ℕ) (f : ℕ → ℕ) → sumTo (n + 1) f ≡ sumTo n f + f n
+unfolding sumTo
+sum-more n f = ap (λ (m : ℕ). sumTo m f) (add-one n)
+
+-- the first term, and the others
+pub sum-first : (n : ℕ) (f : ℕ → ℕ) → sumTo (suc n) f ≡ f 0 + sumTo n (λ i. f (suc i))
+unfolding sumTo
+sum-first zero f = add-comm 0 (f 0)
+sum-first (suc n) f = ap (λ (a : ℕ). a + f (suc n)) (sum-first n f) ∙ add-assoc (f 0) (sumTo n (λ i. f (suc i))) (f (suc n))
+
+-- the first m terms, and the others
+pub sum-split : (m n : ℕ) (f : ℕ → ℕ) → sumTo (m + n) f ≡ sumTo m f + sumTo n (λ i. f (m + i))
+unfolding sumTo
+sum-split m zero f = ap (λ (k : ℕ). sumTo k f) (add-zero m) ∙ sym (add-zero (sumTo m f))
+sum-split m (suc n) f =
+    ap (λ (k : ℕ). sumTo k f) (add-suc m n) ∙ ap (λ (a : ℕ). a + f (m + n)) (sum-split m n f)
+    ∙ add-assoc (sumTo m f) (sumTo n (λ i. f (m + i))) (f (m + n))
+
+-- each term times a
+pub sum-scale : (a n : ℕ) (f : ℕ → ℕ) → sumTo n (λ i. a * f i) ≡ a * sumTo n f
+unfolding sumTo
+sum-scale a zero f = sym (mul-zero a)
+sum-scale a (suc n) f = ap (λ (x : ℕ). x + a * f n) (sum-scale a n f) ∙ sym (mul-add a (sumTo n f) (f n))
+
+-- the terms of a whole period, from any term on
+pub sum-turn : (n : ℕ) (f : ℕ → ℕ) → ((i : ℕ) → f (i + n) ≡ f i) → (s : ℕ) → sumTo n (λ i. f (i + s)) ≡ sumTo n f
+sum-turn n f h zero = sum-ext n (λ i. f (i + 0)) f (λ i l. ap f (add-zero i))
+sum-turn n f h (suc s) =
+    sum-ext n (λ i. f (i + suc s)) (λ i. f (suc i + s)) (λ i l. ap f (add-suc i s ∙ sym (suc-add i s)))
+    ∙ step ∙ sum-turn n f h s
+  where
+    step : sumTo n (λ i. f (suc i + s)) ≡ sumTo n (λ i. f (i + s))
+    step =
+        let a = sum-first n (λ i. f (i + s)) in
+        let b = sum-more n (λ i. f (i + s)) in
+        let c = ap (λ (m : ℕ). sumTo m (λ i. f (i + s))) (add-one n) in
+        let e : f (n + s) ≡ f (0 + s) = ap f (add-comm n s) ∙ h s ∙ ap f (sym (zero-add s)) in
+        omega arith
+
+-- a sum of n numbers of at most m each
+pub sum-le : (m n : ℕ) (f : ℕ → ℕ) → ((i : ℕ) → i < n → f i ≤ m) → sumTo n f ≤ m * n
+unfolding sumTo
+sum-le m zero f h = omega arith
+sum-le m (suc n) f h =
+    let a = sum-le m n f (λ i l. h i (omega arith)) in
+    let b = h n (le-refl (suc n)) in
+    rw mul-suc (omega arith)
+
+-- no number is below the least
+least-to-le : (k : ℕ) (f : ℕ → ℕ) (b : ℕ) → b ≤ k → leastTo k f ≤ f b
+unfolding leastTo
+least-to-le zero f zero h = le-refl (f zero)
+least-to-le zero f (suc b) h = absurd (not-suc-le-zero h)
+least-to-le (suc k) f b h = go (least-to-le k f) (eq-or-lt-of-le h)
+  where
+    go : ((j : ℕ) → j ≤ k → leastTo k f ≤ f j) → (b ≡ suc k) ⊎ (b < suc k) → min (leastTo k f) (f (suc k)) ≤ f b
+    go ih (inl e) = subst (λ (x : ℕ). min (leastTo k f) (f (suc k)) ≤ f x) (sym e) (min-le-right (leastTo k f) (f (suc k)))
+    go ih (inr l) = le-trans (min-le-left (leastTo k f) (f (suc k))) (ih b (le-of-suc-le-suc l))
+
+-- and one number is the least
+least-to-at : (k : ℕ) (f : ℕ → ℕ) → (b : ℕ) × (b ≤ k) × (f b ≡ leastTo k f)
+unfolding leastTo
+least-to-at zero f = (zero, le-refl zero, refl)
+least-to-at (suc k) f = go (least-to-at k f) (decLt (leastTo k f) (f (suc k)))
+  where
+    go : (b : ℕ) × (b ≤ k) × (f b ≡ leastTo k f) → Dec (leastTo k f < f (suc k)) → (b : ℕ) × (b ≤ suc k) × (f b ≡ min (leastTo k f) (f (suc k)))
+    go p (yes l) = let h = p .1 in (p .0, omega arith, p .2 ∙ sym (min-eq-left (le-of-lt l)))
+    go p (no l) = (suc k, le-refl (suc k), sym (min-eq-right (omega arith)))
+
+-- the least so far, and one number more
+pub least-more : (b m : ℕ) (f : ℕ → ℕ) → 1 ≤ b → m ≡ leastTo (b - 1) f → (f b < m → f b ≡ leastTo (b + 1 - 1) f) × (m ≤ f b → m ≡ leastTo (b + 1 - 1) f)
+unfolding leastTo
+least-more zero m f l e = absurd (omega arith)
+least-more (suc k) m f l e =
+    let a : suc k - 1 ≡ k = omega arith in
+    let n : suc k + 1 - 1 ≡ suc k = omega arith in
+    let e2 : m ≡ leastTo k f = e ∙ ap (λ (x : ℕ). leastTo x f) a in
+    let back = ap (λ (x : ℕ). leastTo x f) (sym n) in (
+      (λ s. sym (min-eq-right (le-trans (le-of-lt s) (le-of-eq e2))) ∙ back),
+      (λ s. e2 ∙ sym (min-eq-left (le-trans (le-of-eq (sym e2)) s)) ∙ back),
+    )
+
+-- no entry of a vector is below its least
+pub least-le : (v : List ℕ) (b : ℕ) → b < 64 → least v ≤ getD v b 0
+unfolding least
+least-le v b l = least-to-le 63 (λ i. getD v i 0) b (le-of-suc-le-suc l)
+
+-- some entry is the least
+pub least-at : (v : List ℕ) → (b : ℕ) × (b < 64) × (getD v b 0 ≡ least v)
+unfolding least
+least-at v = let p = least-to-at 63 (λ i. getD v i 0) in (p .0, suc-le-suc (p .1), p .2)
+
+-- an entry less the least
+pub less-least-at : (v : List ℕ) (b : ℕ) → b < 64 → getD (lessLeast v) b 0 ≡ getD v b 0 - least v
+unfolding lessLeast
+less-least-at v b l = getD-tabulate 0 64 (λ i. getD v i 0 - least v) b l
+
+-- one entry less the least is 0
+pub less-least-zero : (v : List ℕ) → (b : ℕ) × (b < 64) × (getD (lessLeast v) b 0 ≡ 0)
+less-least-zero v =
+    let p = least-at v in
+    let q = less-least-at v (p .0) (p .1) in
+    let e = p .2 in
+    (p .0, p .1, omega arith)

@@ -1,0 +1,33 @@
+-- Vectors of 64 numbers, one for each value of a symbol, in order of value; and the sums and the least of numbers by index.
+use Prim.Native.Nat.{ℕ, zero, suc, _+_, _-_, min}
+use mathlib.Core.List.{List, [], _∷_, _++_}
+use lib.ListN.{getD}
+
+module _ {A : Type 0} where
+  -- the list f 0, f 1, .., f (n − 1)
+  unfoldable pub tabulate : ℕ → (ℕ → A) → List A
+  tabulate zero f = []
+  tabulate (suc n) f = f 0 ∷ tabulate n (λ i. f (suc i))
+
+  -- the lists f 0, f 1, .., f (n − 1), one after the other
+  unfoldable pub joined : ℕ → (ℕ → List A) → List A
+  joined zero f = []
+  joined (suc n) f = joined n f ++ f n
+
+-- f 0 + f 1 + .. + f (n − 1)
+unfoldable pub sumTo : ℕ → (ℕ → ℕ) → ℕ
+sumTo zero f = 0
+sumTo (suc n) f = sumTo n f + f n
+
+-- the least of f 0, f 1, .., f k
+unfoldable pub leastTo : ℕ → (ℕ → ℕ) → ℕ
+leastTo zero f = f 0
+leastTo (suc k) f = min (leastTo k f) (f (suc k))
+
+-- the least of the 64 entries
+unfoldable pub least : List ℕ → ℕ
+least v = leastTo 63 (λ b. getD v b 0)
+
+-- each of the 64 entries less the least of them
+unfoldable pub lessLeast : List ℕ → List ℕ
+lessLeast v = tabulate 64 (λ b. getD v b 0 - least v)
