@@ -1,17 +1,12 @@
-"""Print the expected results of 400 pseudo-random calls of the encoder.
+"""The expected results of 400 pseudo-random calls of the encoder.
 
 One line for each case: the refusal number, then every byte of the codeword
-buffer after the call.  The inputs come from a fixed generator, so the output
-is the same bytes in each run; a program that draws its inputs in the same
-order can be compared with it line by line.
+buffer after the call.
 """
 
-import sys
-
-# Leave no compiled copy of scms.py behind in the repository.
-sys.dont_write_bytecode = True
-
 import scms
+
+from draws import Generator, lent_length
 
 CASES = 400
 
@@ -31,26 +26,6 @@ CODEWORD_LENGTH = 6
 # Content of the codeword buffer before the call.  It is no symbol, so a byte
 # that the encoder leaves alone can be told from one it writes.
 UNTOUCHED = 255
-
-
-class Generator:
-    """32-bit linear congruential generator; a draw is the upper 16 bits."""
-
-    def __init__(self):
-        self.state = 1
-
-    def draw(self):
-        self.state = (self.state * 1664525 + 1013904223) % 2 ** 32
-        return self.state // 65536
-
-
-def lent_length(needed, damages, short):
-    """The length of a slice as lent: as needed, or off by one."""
-    if short in damages:
-        return max(needed - 1, 0)
-    if short + 1 in damages:
-        return needed + 1
-    return needed
 
 
 def damage_bytes(d, p, size, count, frozen_map, coefs, message):
@@ -122,14 +97,9 @@ def run_case(generator):
     return (n, refusal, codeword_buffer)
 
 
-def main():
-    generator = Generator()
+def lines():
+    """The lines of all cases."""
+    generator = Generator(1)
     for _ in range(CASES):
         _, refusal, codeword_buffer = run_case(generator)
-        line = " ".join(str(number) for number in [refusal] + codeword_buffer)
-        # Written as bytes, so that the line feed is byte 10 on every system.
-        sys.stdout.buffer.write((line + "\n").encode("ascii"))
-
-
-if __name__ == "__main__":
-    main()
+        yield " ".join(str(number) for number in [refusal] + codeword_buffer)

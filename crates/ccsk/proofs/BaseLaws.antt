@@ -1,8 +1,8 @@
 -- Which bases are refused: a base equals itself turned by 32 chips exactly when two different symbols are sent as the same number.
-use mathlib.Core.Path.{_≡_, refl, sym, ap, ap₂, _∙_, subst}
+use mathlib.Core.Path.{_≡_, sym, ap, _∙_}
 use mathlib.Core.Bool.{true}
 use Prim.Native.Nat.{ℕ, zero, suc, _+_, _*_, _/_, _%_, _-_, _^_, _≤_, _<_}
-use native.Mathlib.Nat.{pow-suc, mod-lt, mod-eq-of-lt, mul-assoc, mul-left-comm, mul-comm, mul-add, add-zero, suc-mul, add-mod-right, add-mod-left, add-mul-mod-self-left, zero-mul}
+use native.Mathlib.Nat.{pow-suc, mod-eq-of-lt, mul-assoc, mul-left-comm, mul-comm, mul-add, add-zero, suc-mul, add-mul-mod-self-left, zero-mul}
 use native.Mathlib.Decide.{decLt}
 use native.Mathlib.Omega.{arith}
 use borrow.Author.Tests.{eqb-true, eq-eqb}

@@ -1,7 +1,7 @@
 -- The laws of chips: a number is the sum of its chips, and the base turned has the base's chips, turned.
-use mathlib.Core.Path.{_≡_, refl, sym, ap, ap₂, _∙_, subst}
-use Prim.Native.Nat.{ℕ, zero, suc, _+_, _*_, _/_, _%_, _-_, _^_, _≤_, _<_}
-use native.Mathlib.Nat.{le-of-suc-le-suc, not-suc-le-zero, pow-succ', two-pow-succ, div-div-eq-div-mul, mod-lt, mod-eq-of-lt, mul-assoc, mul-left-comm, mul-comm, mul-one, add-comm, add-mod-mod, mod-mod, add-mod, add-mod-right, mul-le-mul-right, one-mul, div-lt-iff-lt-mul, mul-div-cancel, mul-mod-left, add-zero, div-one}
+use mathlib.Core.Path.{_≡_, sym, ap, ap₂, _∙_, subst}
+use Prim.Native.Nat.{ℕ, zero, suc, _+_, _*_, _/_, _%_, _-_, _^_, _<_}
+use native.Mathlib.Nat.{le-of-suc-le-suc, not-suc-le-zero, pow-succ', div-div-eq-div-mul, mod-lt, mod-eq-of-lt, mul-left-comm, mul-comm, add-comm, add-mod-mod, div-lt-iff-lt-mul, mul-div-cancel, mul-mod-left, add-zero, div-one}
 use native.Mathlib.Numerals.{add-one}
 use native.Mathlib.Omega.{arith}
 use lib.Bits.{bitOr, or-self, or-shifted-r}
@@ -80,6 +80,7 @@ module _ (base d u : ℕ) (whole : u + d ≡ 64) (fits : base < 2 ^ 64) where
   upper-lt : base / 2 ^ d < 2 ^ u
   upper-lt = div-lt-iff-lt-mul (pow-pos d) .1 (subst (λ (x : ℕ). base < x) (ap (λ (x : ℕ). 2 ^ x) (sym whole) ∙ pow-add 2 u d) fits)
 
+  -- the chips of the upper part, and above them those of the lower
   pub turned-parts : turned base d ≡ base / 2 ^ d + (base % 2 ^ d) * 2 ^ u
   unfolding turned symbolChip chip
   turned-parts =

@@ -14,6 +14,7 @@ use Rattle.ccsk.specs.Demap.{frameOf, demapTable, demapRefusal, demapBuf
 use Rattle.ccsk.specs.Parts.{Symbols}
 
 module _ (base top bottom qc : ℕ) (samples : List ℤ) (buffer : List ℕ) where
+  -- no row has the number 0
   numbered : Numbered (demapTable base top bottom qc samples buffer)
   numbered = (lit< tt, (lit< tt, (lit< tt, (lit< tt, (lit< tt, (lit< tt, (lit< tt, tt)))))))
 

@@ -10,7 +10,7 @@ use lib.Seq.{take-all, take-at, length-take-le, take-append-add, getD-take, getD
 use Rattle.vector.specs.Vector.{joined}
 use Rattle.vector.proofs.Laws.{length-joined, joined-part}
 use Rattle.ccsk.specs.Samples.{llrs}
-use Rattle.ccsk.specs.Demap.{samplesOf, frameOf, Demappable, IsFrame}
+use Rattle.ccsk.specs.Demap.{samplesOf, frameOf, IsFrame}
 use Rattle.ccsk.specs.Part.{placeLlrs}
 use Rattle.ccsk.specs.Parts.{chipsTwice, llrsBy, stored}
 use Rattle.ccsk.proofs.LlrLaws.{length-llrs, stored-llrs, by-base, llr-small, llr-zero}
@@ -45,18 +45,23 @@ module _ (base top bottom qc : ℕ) (samples : List ℤ) where
 
     -- one symbol more
     module _ (l : at < length samples) (v : List ℕ) (e : v ≡ llrs base top bottom qc (take 64 (drop at samples))) where
+      -- the buffer with the vector stored from `at` on
       abbrev after : List ℕ
       after = take at buffer ++ (stored v ++ drop 64 (drop at buffer))
 
+      -- what stands before it
       before-long : length (take at buffer) ≡ at
       before-long = length-take-le at buffer (let a = h .long in omega arith)
 
+      -- what is stored: the 64 penalties of the symbol there
       vector : stored v ≡ llrs base top bottom qc (take 64 (drop at samples))
       vector = ap stored e ∙ stored-llrs base top bottom qc (take 64 (drop at samples))
 
+      -- 64 of them
       vector-long : length (stored v) ≡ 64
       vector-long = ap length vector ∙ length-llrs base top bottom qc (take 64 (drop at samples))
 
+      -- the length stays
       after-long : length after ≡ length samples
       after-long =
           let a = length-append (take at buffer) (stored v ++ drop 64 (drop at buffer)) in
@@ -69,12 +74,14 @@ module _ (base top bottom qc : ℕ) (samples : List ℤ) where
           let j = room l in
           omega arith
 
+      -- what stands before the next vector
       after-first : take (at + 64) after ≡ take at buffer ++ llrs base top bottom qc (take 64 (drop at samples))
       after-first =
           ap (λ (n : ℕ). take (n + 64) after) (sym before-long)
           ∙ take-append-add (take at buffer) (stored v ++ drop 64 (drop at buffer)) 64
           ∙ ap (λ (w : List ℕ). take at buffer ++ w) (take-at (stored v) (drop 64 (drop at buffer)) 64 vector-long ∙ vector)
 
+      -- so one symbol more is written
       written-more : Written after (at + 64)
       unfolding joined samplesOf
       written-more =

@@ -1,15 +1,14 @@
 -- The laws of a symbol's penalties: the raw ones, sample by sample and by the base, and what holds of the 64 that are weighed.
-use mathlib.Core.Path.{_≡_, refl, sym, ap, ap₂, _∙_, subst}
+use mathlib.Core.Path.{_≡_, sym, ap, ap₂, _∙_, subst}
 use mathlib.Core.Bool.{Bool, true, false, cond}
 use mathlib.Core.List.{List}
-use Prim.Native.Nat.{ℕ, zero, suc, _+_, _*_, _/_, _%_, _-_, _^_, _≤_, _<_, min}
+use Prim.Native.Nat.{ℕ, _+_, _*_, _/_, _%_, _-_, _^_, _≤_, _<_, min}
 use native.Mathlib.Nat.{le-refl, min-le-right, zero-div, zero-mul, min-eq-left}
-use native.Mathlib.Numerals.{add-one}
 use native.Mathlib.Omega.{arith}
 use lib.Dec.{eqb}
 use lib.IntN.{ℤ, pos}
 use lib.ListN.{length, getD}
-use Rattle.vector.specs.Vector.{tabulate, sumTo, lessLeast}
+use Rattle.vector.specs.Vector.{sumTo, lessLeast}
 use Rattle.vector.proofs.Laws.{length-tabulate, getD-tabulate, tabulate-ext, sum-ext, sum-more, less-least-zero}
 use Rattle.ccsk.specs.Chips.{chip, symbolChip}
 use Rattle.ccsk.specs.Samples.{hardChip, magnitude, added, raw, rawLlrs, quantised, quantisedLlrs, llrs}

@@ -3,17 +3,16 @@ use mathlib.Core.Path.{_≡_, refl, sym, ap, ap₂, _∙_, subst}
 use mathlib.Core.Bool.{Bool, true, false, cond}
 use mathlib.Core.List.{List}
 use Prim.Native.Nat.{ℕ, zero, suc, _+_, _*_, _/_, _%_, _-_, _^_, _≤_, _<_, min}
-use native.Mathlib.Nat.{mul-zero, mul-one, zero-mul, zero-div, one-mul, min-eq-left, min-le-left, min-eq-right, le-div-iff-mul-le, le-trans, sub-zero}
+use native.Mathlib.Nat.{mul-zero, mul-one, zero-mul, zero-div, one-mul, min-eq-left, min-le-left, le-div-iff-mul-le, sub-zero}
 use native.Mathlib.Decide.{ℕ-discrete}
 use native.Mathlib.Omega.{arith}
 use borrow.Author.Tests.{le-ltb}
 use lib.Dec.{eqb}
-use lib.IntN.{ℤ, pos, negsuc, negℤ, natAbs}
+use lib.IntN.{ℤ, pos, negℤ, natAbs}
 use lib.ListN.{length, getD}
 use lib.Pow.{pow-mono}
-use lib.Signed.{ltZ}
 use Rattle.refusal.specs.Tests.{Within}
-use Rattle.vector.specs.Vector.{sumTo, least, lessLeast}
+use Rattle.vector.specs.Vector.{least}
 use Rattle.vector.proofs.Laws.{length-tabulate, getD-tabulate, length-joined, joined-part, sum-ext, sum-scale, least-le, less-least-at}
 use Rattle.ccsk.specs.Chips.{symbolChip, differing}
 use Rattle.ccsk.specs.Samples.{hardChip, magnitude, added, raw, rawLlrs, quantised, llrs}
@@ -72,6 +71,7 @@ module _ (base a s : ℕ) where
       ∙ sent-adds a (symbolChip base s k) (symbolChip base v k) (symbol-chip-lt base s k))
       ∙ sum-scale a 64 (λ k. cond (eqb (symbolChip base s k) (symbolChip base v k)) 0 1)
 
+  -- as an entry of the 64
   raw-sent-at : (v : ℕ) → v < 64 → getD (rawLlrs base (sentSymbol base a s)) v 0 ≡ a * differing base s v
   unfolding rawLlrs
   raw-sent-at v l = getD-tabulate 0 64 (raw base (sentSymbol base a s)) v l ∙ raw-sent v
@@ -85,6 +85,7 @@ module _ (base a s : ℕ) where
         omega arith
 
     module _ (top bottom qc : ℕ) where
+      -- so each penalty is that number less 0, quantised
       sent-llr : (v : ℕ) → v < 64 → sentLlr base a top bottom qc s v ≡ min (a * differing base s v * top / bottom) (2 ^ qc - 1)
       unfolding sentLlr quantised
       sent-llr v l =

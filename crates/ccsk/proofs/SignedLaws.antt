@@ -1,17 +1,17 @@
 -- A sample is a signed byte: what a test, a negation and a cast of it say of the number itself.
-use mathlib.Core.Path.{_≡_, refl, sym, ap, ap₂, _∙_, subst}
+use mathlib.Core.Path.{_≡_, refl, sym, ap, _∙_, subst}
 use mathlib.Core.Bool.{Bool, true, false}
-use Prim.Native.Nat.{ℕ, zero, suc, _+_, _^_, _≤_, _<_}
+use Prim.Native.Nat.{ℕ, suc, _≤_}
 use native.Mathlib.Nat.{zero-add}
 use native.Mathlib.Omega.{arith}
 use borrow.Author.Tests.{ltb-true}
 use lib.Dec.{T}
-use lib.IntN.{ℤ, pos, negsuc, negℤ, natAbs, _-ℤ_, _+ℤ_}
-use lib.Signed.{mag, nonNeg, ltZ, _<ℤ_, _≤ℤ_, yes-nonNeg}
-use mir.Syntax.{Width, w8, w16}
+use lib.IntN.{ℤ, pos, negsuc, natAbs, _-ℤ_}
+use lib.Signed.{nonNeg, ltZ}
+use mir.Syntax.{w8, w16}
 use mir.Val.{toZ, ofZ, Fits, SFits}
 use mir.ValLaws.{toZ-ofZ}
-use Rattle.ccsk.specs.Samples.{hardChip, magnitude}
+use Rattle.ccsk.specs.Samples.{magnitude}
 
 -- a number below 0 is what its magnitude, taken off 0, gives
 below-zero : (y : ℤ) → ltZ y (pos 0) ≡ true → pos 0 -ℤ y ≡ pos (natAbs y)
@@ -30,15 +30,19 @@ at-most (negsuc n) f = let l = f .sfits in omega arith
 
 -- a number from 0 to 128, read back from 16 bits and cast to them
 module _ (z : ℤ) (n : ℕ) (e : z ≡ pos n) (l : n ≤ 128) where
+  -- it fits
   pub result-fits : SFits w16 z
   result-fits = subst (SFits w16) (sym e) (record { sfits = omega arith })
 
+  -- it is read back as it was
   back : toZ w16 (ofZ w16 z) ≡ pos n
   back = toZ-ofZ w16 z result-fits ∙ e
 
+  -- it may be cast to 16 bits
   pub result-cast : T (nonNeg (toZ w16 (ofZ w16 z))) × Fits w16 (natAbs (toZ w16 (ofZ w16 z)))
   result-cast = subst (λ (x : ℤ). T (nonNeg x) × Fits w16 (natAbs x)) (sym back) (tt, record { fits = omega arith })
 
+  -- and what is cast is the number
   pub result-is : (natAbs (toZ w16 (ofZ w16 z)) ≡ n) × (natAbs (toZ w16 (ofZ w16 z)) ≤ 128)
   result-is = (ap natAbs back, subst (λ (x : ℤ). natAbs x ≤ 128) (sym back) l)
 
@@ -59,6 +63,7 @@ module _ (y : ℤ) (small : SFits w8 y) where
   wide : toZ w16 (ofZ w16 (toZ w8 (ofZ w8 y))) ≡ y
   wide = toZ-ofZ w16 (toZ w8 (ofZ w8 y)) widened ∙ plain
 
+  -- its magnitude is at most 128
   pub small-size : magnitude y ≤ 128
   unfolding magnitude
   small-size = at-most y small

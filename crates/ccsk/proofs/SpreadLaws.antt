@@ -12,6 +12,7 @@ use Rattle.ccsk.specs.Chips.{turned}
 use Rattle.ccsk.specs.Spread.{numbersOf, spreadTable, spreadRefusal, spreadBuffer, Spreadable}
 
 module _ (base : ℕ) (symbols buffer : List ℕ) where
+  -- no row has the number 0
   numbered : Numbered (spreadTable base symbols buffer)
   numbered = (lit< tt, (lit< tt, (lit< tt, (lit< tt, tt))))
 

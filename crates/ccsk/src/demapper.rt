@@ -3,7 +3,6 @@ use crate::chips::chips_twice;
 use crate::chips::turned;
 use crate::samples::symbol_llrs;
 ghost use mathlib.Core.Path.{_≡_};
-ghost use Prim.Native.Nat.{_*_};
 ghost use lib.ListN.{length};
 ghost use Rattle.ccsk.specs.Demap.{frameOf, demapRefusal, Demapped};
 ghost use Rattle.ccsk.specs.Parts.{stored, Symbols};

@@ -46,8 +46,9 @@ taken-none rs p e = walked (subst (Finds rs) e (refusal-finds rs)) p refl
     walked (here q) n z = absurd (let l = n .0 in omega arith)
     walked (later q w) n z = (q, walked w (n .1) z)
 
--- what a call leaves where it takes its input, and where it refuses it
+-- what a call leaves, by its answer r
 module _ {A : Type 0} (r : ℕ) (made kept : A) where
+  -- taken: what it made
   pub when-taken : r ≡ 0 → cond (eqb r 0) made kept ≡ made
   when-taken e = ap (λ (t : Bool). cond t made kept) (eq-eqb r 0 e)
 

@@ -1,5 +1,5 @@
 -- `is_outside` meets its contract: below low it is outside, and else the second test decides.
-use mathlib.Core.Path.{_≡_, sym, ap}
+use mathlib.Core.Path.{sym, ap}
 use mathlib.Core.Bool.{Bool, _||_}
 use borrow.Author.Tests.{le-ltb}
 use lib.Dec.{ltb}

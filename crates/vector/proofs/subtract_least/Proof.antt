@@ -1,6 +1,6 @@
 -- `subtract_least` meets its contract: the entries before b are filled.
-use mathlib.Core.Path.{_≡_, refl, sym, ap, _∙_, subst}
-use Prim.Native.Nat.{ℕ, _-_, _≤_}
+use mathlib.Core.Path.{refl, ap}
+use Prim.Native.Nat.{ℕ, _-_}
 use native.Mathlib.Omega.{arith}
 use borrow.Author.Needs.{needs}
 use lib.ListN.{getD}
@@ -8,9 +8,6 @@ use Rattle.vector.specs.Vector.{least, lessLeast}
 use Rattle.vector.proofs.Laws.{Filled, fill-none, fill-more, fill-all, least-le}
 use Rattle.vector.proofs.subtract_least.Statement.{statement}
 use Rattle.vector.proofs.subtract_least.Tie as tie
-use Rattle.vector.proofs.subtract_least.Reads as reads
-use Rattle.vector.proofs.subtract_least.Lts as lts
-use Rattle.vector.proofs.least_of.Reads as least-of-reads
 
 abbrev Inv-loop : tie.InvT-loop
 Inv-loop v taken r₀ b₀ r b = Filled 64 (λ i. getD v i 0 - least v) r b

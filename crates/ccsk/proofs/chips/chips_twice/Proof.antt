@@ -1,6 +1,6 @@
 -- `chips_twice` meets its contract: the chips before j are filled.
-use mathlib.Core.Path.{_≡_, refl, sym, ap, ap₂, _∙_, subst}
-use Prim.Native.Nat.{ℕ, zero, suc, _+_, _*_, _/_, _%_, _-_, _^_, _≤_, _<_, min}
+use mathlib.Core.Path.{refl}
+use Prim.Native.Nat.{_%_, _-_}
 use native.Mathlib.Omega.{arith}
 use Rattle.vector.proofs.Laws.{Filled, fill-none, fill-more, fill-all}
 use Rattle.ccsk.specs.Chips.{chip}
@@ -8,8 +8,6 @@ use Rattle.ccsk.specs.Parts.{chipsTwice}
 use borrow.Author.Needs.{needs}
 use Rattle.ccsk.proofs.chips.chips_twice.Statement.{statement}
 use Rattle.ccsk.proofs.chips.chips_twice.Tie as tie
-use Rattle.ccsk.proofs.chips.chips_twice.Reads as reads
-use Rattle.ccsk.proofs.chips.chips_twice.Lts as lts
 
 abbrev Inv-loop : tie.InvT-loop
 Inv-loop base chips₀ j₀ chips j = Filled 128 (λ i. chip base (i % 64)) chips j

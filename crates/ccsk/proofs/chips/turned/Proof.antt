@@ -1,11 +1,8 @@
 -- `turned` meets its contract: the two shifts, joined, are the number turned (ChipLaws).
-use mathlib.Core.Path.{_≡_, refl, sym, ap, ap₂, _∙_, subst}
 use Rattle.ccsk.proofs.ChipLaws.{shifted}
 use borrow.Author.Needs.{needs}
 use Rattle.ccsk.proofs.chips.turned.Statement.{statement}
 use Rattle.ccsk.proofs.chips.turned.Tie as tie
-use Rattle.ccsk.proofs.chips.turned.Reads as reads
-use Rattle.ccsk.proofs.chips.turned.Lts as lts
 
 sub-up : tie.Need-sub-up
 sub-up c = search needs

@@ -1,14 +1,10 @@
 -- `demap` meets its contract: on a refusal nothing is written, and else its part writes all (DemapLaws).
-use mathlib.Core.Path.{_≡_, refl, sym, ap, ap₂, _∙_, subst}
+use mathlib.Core.Path.{_≡_, sym, _∙_}
 use Rattle.ccsk.specs.Demap.{demapRefusal}
 use Rattle.ccsk.proofs.DemapLaws.{taken, symbols, buffer-taken, buffer-refused}
 use borrow.Author.Needs.{needs}
 use Rattle.ccsk.proofs.demapper.demap.Statement.{statement}
 use Rattle.ccsk.proofs.demapper.demap.Tie as tie
-use Rattle.ccsk.proofs.demapper.demap.Reads as reads
-use Rattle.ccsk.proofs.demapper.demap.Lts as lts
-use Rattle.ccsk.proofs.demapper.demap_refusal.Reads as demap-refusal-reads
-use Rattle.ccsk.proofs.demapper.write_llrs.Reads as write-llrs-reads
 
 -- the entry, from the place where nothing is refused
 abbrev entry : tie.Else1 → tie.Start

@@ -1,7 +1,7 @@
 -- `demap_refusal` meets its contract: it goes down document 01's table and stops at the first row that fits.
-use mathlib.Core.Path.{_≡_, refl, sym, ap, ap₂, _∙_, subst}
+use mathlib.Core.Path.{_≡_, sym, _∙_}
 use mathlib.Core.List.{List}
-use Prim.Native.Nat.{ℕ, _/_, _%_}
+use Prim.Native.Nat.{ℕ, _/_}
 use borrow.Author.Tests.{eq-eqb, ne-eqb}
 use lib.ListN.{length, drop}
 use Rattle.refusal.specs.Table.{Row}
@@ -12,10 +12,6 @@ use Rattle.ccsk.specs.Demap.{demapTable, demapRefusal}
 use borrow.Author.Needs.{needs}
 use Rattle.ccsk.proofs.demapper.demap_refusal.Statement.{statement}
 use Rattle.ccsk.proofs.demapper.demap_refusal.Tie as tie
-use Rattle.ccsk.proofs.demapper.demap_refusal.Reads as reads
-use Rattle.ccsk.proofs.demapper.demap_refusal.Lts as lts
-use Rattle.ccsk.proofs.chips.turned.Reads as turned-reads
-use Rattle.refusal.proofs.is_outside.Reads as is-outside-reads
 
 -- the table for what the function was given
 abbrev table : tie.Start → List Row

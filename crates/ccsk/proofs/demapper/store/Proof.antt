@@ -1,15 +1,13 @@
 -- `store` meets its contract: the entries before s are filled.
-use mathlib.Core.Path.{_≡_, refl, sym, ap, ap₂, _∙_, subst}
-use Prim.Native.Nat.{ℕ, zero, suc, _+_, _*_, _/_, _%_, _-_, _^_, _≤_, _<_, min}
+use mathlib.Core.Path.{refl}
+use Prim.Native.Nat.{_-_}
 use native.Mathlib.Omega.{arith}
-use lib.ListN.{length, getD, take, drop, set}
+use lib.ListN.{getD}
 use Rattle.vector.proofs.Laws.{Filled, fill-none, fill-more, fill-all}
 use Rattle.ccsk.specs.Parts.{stored}
 use borrow.Author.Needs.{needs}
 use Rattle.ccsk.proofs.demapper.store.Statement.{statement}
 use Rattle.ccsk.proofs.demapper.store.Tie as tie
-use Rattle.ccsk.proofs.demapper.store.Reads as reads
-use Rattle.ccsk.proofs.demapper.store.Lts as lts
 
 abbrev Inv-loop : tie.InvT-loop
 Inv-loop v to₀ s₀ to s = Filled 64 (λ i. getD v i 0) to s

@@ -1,19 +1,12 @@
 -- `write_llrs` meets its contract: the frame is written up to `at`.
-use mathlib.Core.Path.{_≡_, refl, sym, ap, ap₂, _∙_, subst}
-use Prim.Native.Nat.{ℕ, zero, suc, _+_, _*_, _/_, _%_, _-_, _^_, _≤_, _<_, min}
+use mathlib.Core.Path.{_≡_, sym, _∙_}
+use Prim.Native.Nat.{_+_, _-_, _≤_}
 use native.Mathlib.Omega.{arith}
-use lib.ListN.{length, getD, take, drop, set}
-use Rattle.ccsk.specs.Parts.{chipsTwice}
-use Rattle.ccsk.proofs.LlrLaws.{by-base}
+use lib.ListN.{length}
 use Rattle.ccsk.proofs.FrameLaws.{part-long, Written, written-none, room, written-next, written-all}
 use borrow.Author.Needs.{needs}
 use Rattle.ccsk.proofs.demapper.write_llrs.Statement.{statement}
 use Rattle.ccsk.proofs.demapper.write_llrs.Tie as tie
-use Rattle.ccsk.proofs.demapper.write_llrs.Reads as reads
-use Rattle.ccsk.proofs.demapper.write_llrs.Lts as lts
-use Rattle.ccsk.proofs.chips.chips_twice.Reads as chips-twice-reads
-use Rattle.ccsk.proofs.demapper.store.Reads as store-reads
-use Rattle.ccsk.proofs.samples.symbol_llrs.Reads as symbol-llrs-reads
 
 abbrev Inv-loop : tie.InvT-loop
 Inv-loop base samples top bottom qc llrs₀ chips at₀ llrs at = Written base top bottom qc samples llrs at

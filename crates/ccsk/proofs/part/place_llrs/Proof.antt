@@ -1,16 +1,12 @@
 -- `place_llrs` meets its contract: in each of its three cases the part is the one that the definition names (PartLaws).
-use mathlib.Core.Path.{_≡_, refl, sym, ap, ap₂, _∙_, subst}
-use mathlib.Core.List.{List}
-use Prim.Native.Nat.{ℕ, _+_, _-_, _*_}
+use mathlib.Core.Path.{_≡_, sym, ap₂, _∙_}
+use Prim.Native.Nat.{ℕ, _+_, _-_}
 use native.Mathlib.Omega.{arith}
 use lib.ListN.{take, drop}
 use Rattle.ccsk.proofs.PartLaws.{ragged-empty, outside-empty, place-there}
 use borrow.Author.Needs.{needs}
 use Rattle.ccsk.proofs.part.place_llrs.Statement.{statement}
 use Rattle.ccsk.proofs.part.place_llrs.Tie as tie
-use Rattle.ccsk.proofs.part.place_llrs.Reads as reads
-use Rattle.ccsk.proofs.part.place_llrs.Lts as lts
-use Rattle.ccsk.proofs.part.start_of.Reads as start-of-reads
 
 sub-result : tie.Need-sub-result
 sub-result c = search needs

@@ -1,15 +1,11 @@
 -- `added` meets its contract.
-use mathlib.Core.Path.{_≡_, refl, sym, ap, ap₂, _∙_, subst}
+use mathlib.Core.Path.{sym, ap}
 use mathlib.Core.Bool.{Bool, cond}
-use Prim.Native.Nat.{ℕ}
 use native.Mathlib.Omega.{arith}
 use borrow.Author.Tests.{eq-eqb, ne-eqb}
 use Rattle.ccsk.specs.Samples.{added}
-use borrow.Author.Needs.{needs}
 use Rattle.ccsk.proofs.samples.added.Statement.{statement}
 use Rattle.ccsk.proofs.samples.added.Tie as tie
-use Rattle.ccsk.proofs.samples.added.Reads as reads
-use Rattle.ccsk.proofs.samples.added.Lts as lts
 
 returns : tie.Need-returns
 unfolding added

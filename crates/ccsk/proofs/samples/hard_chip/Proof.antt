@@ -1,14 +1,11 @@
 -- `hard_chip` meets its contract.
-use mathlib.Core.Path.{_≡_, refl, sym, ap, ap₂, _∙_, subst}
+use mathlib.Core.Path.{sym, ap}
 use mathlib.Core.Bool.{Bool, cond}
 use Prim.Native.Nat.{ℕ}
 use Rattle.ccsk.specs.Samples.{hardChip}
 use Rattle.ccsk.proofs.SignedLaws.{sign}
-use borrow.Author.Needs.{needs}
 use Rattle.ccsk.proofs.samples.hard_chip.Statement.{statement}
 use Rattle.ccsk.proofs.samples.hard_chip.Tie as tie
-use Rattle.ccsk.proofs.samples.hard_chip.Reads as reads
-use Rattle.ccsk.proofs.samples.hard_chip.Lts as lts
 
 returns : tie.Need-returns
 unfolding hardChip

@@ -1,13 +1,10 @@
 -- `largest` meets its contract: 2^Qc is at most 32.
-use mathlib.Core.Path.{_≡_, refl, sym, ap, ap₂, _∙_, subst}
-use Prim.Native.Nat.{ℕ, zero, suc, _+_, _*_, _/_, _%_, _-_, _^_, _≤_, _<_, min}
+use Prim.Native.Nat.{_-_}
 use native.Mathlib.Omega.{arith}
 use lib.Pow.{pow-mono, pow-pos}
 use borrow.Author.Needs.{needs}
 use Rattle.ccsk.proofs.samples.largest.Statement.{statement}
 use Rattle.ccsk.proofs.samples.largest.Tie as tie
-use Rattle.ccsk.proofs.samples.largest.Reads as reads
-use Rattle.ccsk.proofs.samples.largest.Lts as lts
 
 shl-result : tie.Need-shl-result
 shl-result c = search needs

@@ -1,25 +1,23 @@
 -- `magnitude` meets its contract.
-use mathlib.Core.Path.{_≡_, refl, sym, ap, ap₂, _∙_, subst}
+use mathlib.Core.Path.{_≡_}
 use Prim.Native.Nat.{_≤_}
 use lib.IntN.{pos, _-ℤ_}
 use mir.Syntax.{w8, w16}
 use mir.Val.{toZ, ofZ}
 use Rattle.ccsk.specs.Samples.{magnitude}
 use Rattle.ccsk.proofs.SignedLaws.{result-fits, result-cast, result-is, widened, small-size, negated, kept}
-use borrow.Author.Needs.{needs}
 use Rattle.ccsk.proofs.samples.magnitude.Statement.{statement}
 use Rattle.ccsk.proofs.samples.magnitude.Tie as tie
-use Rattle.ccsk.proofs.samples.magnitude.Reads as reads
-use Rattle.ccsk.proofs.samples.magnitude.Lts as lts
 
 -- the magnitude is at most 128
 size : (c : tie.Start) → magnitude (c .args .sample) ≤ 128
 size c = small-size (c .args .sample) (c .fits .sample)
 
--- the result in each branch
+-- below 0: what the sample gives taken off 0
 below : (c : tie.Then1) → pos 0 -ℤ toZ w16 (ofZ w16 (toZ w8 (ofZ w8 (c .before .args .sample)))) ≡ pos (magnitude (c .before .args .sample))
 below c = negated (c .before .args .sample) (c .before .fits .sample) (c .if1 .taken)
 
+-- not below 0: the sample itself
 above : (c : tie.Else1) → toZ w8 (ofZ w8 (c .before .args .sample)) ≡ pos (magnitude (c .before .args .sample))
 above c = kept (c .before .args .sample) (c .before .fits .sample) (c .if1 .left)
 

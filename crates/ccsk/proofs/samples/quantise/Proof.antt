@@ -1,16 +1,13 @@
 -- `quantise` meets its contract: the entries before s are filled.
-use mathlib.Core.Path.{_≡_, refl, sym, ap, ap₂, _∙_, subst}
-use Prim.Native.Nat.{ℕ, zero, suc, _+_, _*_, _/_, _%_, _-_, _^_, _≤_, _<_, min}
+use mathlib.Core.Path.{refl}
+use Prim.Native.Nat.{_-_}
 use native.Mathlib.Omega.{arith}
-use lib.ListN.{length, getD, take, drop, set}
+use lib.ListN.{getD}
 use Rattle.vector.proofs.Laws.{Filled, fill-none, fill-more, fill-all}
 use Rattle.ccsk.specs.Samples.{quantised, quantisedLlrs}
 use borrow.Author.Needs.{needs}
 use Rattle.ccsk.proofs.samples.quantise.Statement.{statement}
 use Rattle.ccsk.proofs.samples.quantise.Tie as tie
-use Rattle.ccsk.proofs.samples.quantise.Reads as reads
-use Rattle.ccsk.proofs.samples.quantise.Lts as lts
-use Rattle.ccsk.proofs.samples.quantised.Reads as quantised-reads
 
 abbrev Inv-loop : tie.InvT-loop
 Inv-loop v top bottom qc r₀ s₀ r s = Filled 64 (λ i. quantised top bottom qc (getD v i 0)) r s

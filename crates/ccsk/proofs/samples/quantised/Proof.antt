@@ -1,16 +1,12 @@
 -- `quantised` meets its contract: the product of a 16-bit number and at most 255 fits, and the smaller of two is chosen.
-use mathlib.Core.Path.{_≡_, refl, sym, ap, ap₂, _∙_, subst}
-use Prim.Native.Nat.{ℕ, zero, suc, _+_, _*_, _/_, _%_, _-_, _^_, _≤_, _<_, min}
+use mathlib.Core.Path.{_≡_, sym, ap₂, _∙_}
+use Prim.Native.Nat.{_*_, _-_, _≤_, min}
 use native.Mathlib.Omega.{arith}
 use native.Mathlib.Nat.{min-eq-left, min-eq-right, le-of-lt, mul-le-mul}
 use Rattle.ccsk.specs.Samples.{quantised}
 use borrow.Author.Needs.{needs}
 use Rattle.ccsk.proofs.samples.quantised.Statement.{statement}
 use Rattle.ccsk.proofs.samples.quantised.Tie as tie
-use Rattle.ccsk.proofs.samples.quantised.Reads as reads
-use Rattle.ccsk.proofs.samples.quantised.Lts as lts
-use Rattle.ccsk.proofs.samples.largest.Reads as largest-reads
-use Rattle.ccsk.proofs.samples.rounded_down.Reads as rounded-down-reads
 
 -- the product is at most 65535 × 255
 small : (c : tie.Start) → c .args .x * c .args .top ≤ 65535 * 255

@@ -1,23 +1,18 @@
 -- `raw_llrs` meets its contract: the sums are those of the first k samples, each at most 128 × k.
-use mathlib.Core.Path.{_≡_, refl, sym, ap, ap₂, _∙_, subst}
-use Prim.Native.Nat.{ℕ, zero, suc, _+_, _*_, _/_, _%_, _-_, _^_, _≤_, _<_, min}
+use mathlib.Core.Path.{_≡_, refl, ap, _∙_}
+use Prim.Native.Nat.{ℕ, _*_, _-_, _≤_, _<_}
 use native.Mathlib.Omega.{arith}
 use native.Mathlib.Nat.{le-of-eq}
 use lib.IntN.{pos}
-use lib.ListN.{length, getD, replicate, getD-replicate}
-use Rattle.ccsk.specs.Samples.{hardChip, magnitude, added}
-use Rattle.ccsk.specs.Parts.{rawTo, withSample, addedAt}
+use lib.ListN.{getD, replicate, getD-replicate}
+use Rattle.ccsk.specs.Samples.{hardChip, magnitude}
+use Rattle.ccsk.specs.Parts.{rawTo}
 use Rattle.ccsk.proofs.LlrLaws.{raw-more, raw-small}
 use Rattle.ccsk.proofs.SignedLaws.{plain}
 use Rattle.vector.specs.Vector.{tabulate, sumTo}
 use borrow.Author.Needs.{needs}
 use Rattle.ccsk.proofs.samples.raw_llrs.Statement.{statement}
 use Rattle.ccsk.proofs.samples.raw_llrs.Tie as tie
-use Rattle.ccsk.proofs.samples.raw_llrs.Reads as reads
-use Rattle.ccsk.proofs.samples.raw_llrs.Lts as lts
-use Rattle.ccsk.proofs.samples.hard_chip.Reads as hard-chip-reads
-use Rattle.ccsk.proofs.samples.magnitude.Reads as magnitude-reads
-use Rattle.ccsk.proofs.samples.with_sample.Reads as with-sample-reads
 
 abbrev Inv-loop : tie.InvT-loop
 Inv-loop chips samples sums₀ k₀ sums k = (k ≤ 64) × (sums ≡ rawTo chips samples k) × ((s : ℕ) → s < 64 → getD sums s 0 ≤ 128 * k)

@@ -1,5 +1,5 @@
 -- `symbol_llrs` meets its contract: what its parts ensure, put together.
-use mathlib.Core.Path.{_≡_, refl, sym, ap, ap₂, _∙_, subst}
+use mathlib.Core.Path.{ap, _∙_}
 use mathlib.Core.List.{List}
 use Prim.Native.Nat.{ℕ}
 use Rattle.vector.specs.Vector.{lessLeast}
@@ -7,11 +7,6 @@ use Rattle.ccsk.specs.Samples.{quantisedLlrs}
 use borrow.Author.Needs.{needs}
 use Rattle.ccsk.proofs.samples.symbol_llrs.Statement.{statement}
 use Rattle.ccsk.proofs.samples.symbol_llrs.Tie as tie
-use Rattle.ccsk.proofs.samples.symbol_llrs.Reads as reads
-use Rattle.ccsk.proofs.samples.symbol_llrs.Lts as lts
-use Rattle.ccsk.proofs.samples.quantise.Reads as quantise-reads
-use Rattle.ccsk.proofs.samples.raw_llrs.Reads as raw-llrs-reads
-use Rattle.vector.proofs.subtract_least.Reads as subtract-least-reads
 
 raw-llrs-requires : tie.Need-raw-llrs-requires
 raw-llrs-requires c κs = search needs

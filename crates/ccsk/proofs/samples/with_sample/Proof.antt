@@ -1,17 +1,14 @@
 -- `with_sample` meets its contract: the sums before s are filled, and each fits, since it is at most 128 × (k + 1).
-use mathlib.Core.Path.{_≡_, refl, sym, ap, ap₂, _∙_, subst}
-use Prim.Native.Nat.{ℕ, zero, suc, _+_, _*_, _/_, _%_, _-_, _^_, _≤_, _<_, min}
+use mathlib.Core.Path.{refl, ap}
+use Prim.Native.Nat.{ℕ, _+_, _-_}
 use native.Mathlib.Omega.{arith}
-use lib.ListN.{length, getD, take, drop, set}
+use lib.ListN.{getD}
 use Rattle.vector.proofs.Laws.{Filled, fill-none, fill-more, fill-all}
 use Rattle.ccsk.specs.Samples.{added}
 use Rattle.ccsk.specs.Parts.{withSample}
 use borrow.Author.Needs.{needs}
 use Rattle.ccsk.proofs.samples.with_sample.Statement.{statement}
 use Rattle.ccsk.proofs.samples.with_sample.Tie as tie
-use Rattle.ccsk.proofs.samples.with_sample.Reads as reads
-use Rattle.ccsk.proofs.samples.with_sample.Lts as lts
-use Rattle.ccsk.proofs.samples.added.Reads as added-reads
 
 abbrev Inv-loop : tie.InvT-loop
 Inv-loop sums chips k hard size next₀ s₀ next s = Filled 64 (λ i. getD sums i 0 + added (getD chips (k + i) 0) hard size) next s

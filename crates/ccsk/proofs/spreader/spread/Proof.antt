@@ -1,14 +1,10 @@
 -- `spread` meets its contract: on a refusal nothing is written, and else its part writes all (SpreadLaws).
-use mathlib.Core.Path.{_≡_, refl, sym, ap, ap₂, _∙_, subst}
+use mathlib.Core.Path.{_≡_, sym, _∙_}
 use Rattle.ccsk.specs.Spread.{spreadRefusal}
 use Rattle.ccsk.proofs.SpreadLaws.{taken, buffer-taken, buffer-refused}
 use borrow.Author.Needs.{needs}
 use Rattle.ccsk.proofs.spreader.spread.Statement.{statement}
 use Rattle.ccsk.proofs.spreader.spread.Tie as tie
-use Rattle.ccsk.proofs.spreader.spread.Reads as reads
-use Rattle.ccsk.proofs.spreader.spread.Lts as lts
-use Rattle.ccsk.proofs.spreader.spread_refusal.Reads as spread-refusal-reads
-use Rattle.ccsk.proofs.spreader.write_numbers.Reads as write-numbers-reads
 
 -- the entry, from the place where nothing is refused
 abbrev entry : tie.Else1 → tie.Start

@@ -1,7 +1,7 @@
 -- `spread_refusal` meets its contract: it goes down document 01's table and stops at the first row that fits.
-use mathlib.Core.Path.{_≡_, refl, sym, ap, ap₂, _∙_, subst}
+use mathlib.Core.Path.{_≡_, sym, _∙_}
 use mathlib.Core.List.{List}
-use Prim.Native.Nat.{ℕ, _/_, _%_}
+use Prim.Native.Nat.{ℕ}
 use borrow.Author.Tests.{eq-eqb, ne-eqb}
 use lib.ListN.{length, drop}
 use Rattle.refusal.specs.Table.{Row}
@@ -12,10 +12,6 @@ use Rattle.ccsk.specs.Spread.{spreadTable, spreadRefusal}
 use borrow.Author.Needs.{needs}
 use Rattle.ccsk.proofs.spreader.spread_refusal.Statement.{statement}
 use Rattle.ccsk.proofs.spreader.spread_refusal.Tie as tie
-use Rattle.ccsk.proofs.spreader.spread_refusal.Reads as reads
-use Rattle.ccsk.proofs.spreader.spread_refusal.Lts as lts
-use Rattle.ccsk.proofs.chips.turned.Reads as turned-reads
-use Rattle.refusal.proofs.any_outside.Reads as any-outside-reads
 
 -- the table for what the function was given
 abbrev table : tie.Start → List Row

@@ -1,8 +1,8 @@
 -- `write_numbers` meets its contract: the numbers before i are filled.
-use mathlib.Core.Path.{_≡_, refl, sym, ap, ap₂, _∙_, subst}
-use Prim.Native.Nat.{ℕ, zero, suc, _+_, _*_, _/_, _%_, _-_, _^_, _≤_, _<_, min}
+use mathlib.Core.Path.{_∙_}
+use Prim.Native.Nat.{_-_}
 use native.Mathlib.Omega.{arith}
-use lib.ListN.{length, getD, take, drop, set}
+use lib.ListN.{length, getD}
 use Rattle.vector.proofs.Laws.{Filled, fill-none, fill-more, fill-all}
 use Rattle.vector.proofs.Laws.{tabulate-map}
 use Rattle.ccsk.specs.Chips.{turned}
@@ -10,9 +10,6 @@ use Rattle.ccsk.specs.Spread.{numbersOf}
 use borrow.Author.Needs.{needs}
 use Rattle.ccsk.proofs.spreader.write_numbers.Statement.{statement}
 use Rattle.ccsk.proofs.spreader.write_numbers.Tie as tie
-use Rattle.ccsk.proofs.spreader.write_numbers.Reads as reads
-use Rattle.ccsk.proofs.spreader.write_numbers.Lts as lts
-use Rattle.ccsk.proofs.chips.turned.Reads as turned-reads
 
 abbrev Inv-loop : tie.InvT-loop
 Inv-loop base symbols numbers₀ i₀ numbers i = Filled (length symbols) (λ i. turned base (getD symbols i 0)) numbers i

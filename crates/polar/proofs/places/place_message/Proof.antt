@@ -14,8 +14,6 @@ use Rattle.polar.specs.Encode.{symbolAt, restAfter, wordBefore}
 use Rattle.polar.proofs.MessageLaws.{kind-message, kind-frozen, places-from, PlacedTo, place-more, next-placed, next-left}
 use Rattle.polar.proofs.places.place_message.Statement.{statement}
 use Rattle.polar.proofs.places.place_message.Tie as tie
-use Rattle.polar.proofs.places.place_message.Reads as reads
-use Rattle.polar.proofs.places.place_message.Lts as lts
 
 abbrev Inv-loop : tie.InvT-loop
 Inv-loop map symbols word₀ next₀ j₀ word next j = PlacedTo map symbols word₀ word next j

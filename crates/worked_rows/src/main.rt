@@ -1,0 +1,9 @@
+// Prints rows that document 01 works by hand, as the calls give them.
+mod chips;
+mod encoding;
+mod print;
+
+fn main() {
+    encoding::print_rows();
+    chips::print_rows();
+}
