@@ -1,7 +1,7 @@
 -- The laws of chips: a number is the sum of its chips, and the base turned has the base's chips, turned.
 use mathlib.Core.Path.{_≡_, sym, ap, ap₂, _∙_, subst}
 use Prim.Native.Nat.{ℕ, zero, suc, _+_, _*_, _/_, _%_, _-_, _^_, _<_}
-use native.Mathlib.Nat.{le-of-suc-le-suc, not-suc-le-zero, pow-succ', div-div-eq-div-mul, mod-lt, mod-eq-of-lt, mul-left-comm, mul-comm, add-comm, add-mod-mod, div-lt-iff-lt-mul, mul-div-cancel, mul-mod-left, add-zero, div-one}
+use native.Mathlib.Nat.{le-of-suc-le-suc, not-suc-le-zero, pow-succ', div-div-eq-div-mul, mod-lt, mod-eq-of-lt, mul-left-comm, mul-comm, add-comm, add-mod-mod, div-lt-iff-lt-mul, mul-div-cancel, mul-mod-left, add-zero, div-one, mul-le-mul-right, two-pow-succ, one-mul}
 use native.Mathlib.Numerals.{add-one}
 use native.Mathlib.Omega.{arith}
 use lib.Bits.{bitOr, or-self, or-shifted-r}
@@ -53,6 +53,22 @@ chip-value (suc n) f h k l = ap (λ (x : ℕ). x / 2 ^ k % 2) halves ∙ go k l 
         ap (λ (x : ℕ). (f 0 + 2 * rest) / x % 2) (pow-succ' 2 j)
         ∙ ap (λ (x : ℕ). x % 2) (sym (div-div-eq-div-mul (f 0 + 2 * rest) 2 (2 ^ j)) ∙ ap (λ (x : ℕ). x / 2 ^ j) e)
         ∙ ih j (le-of-suc-le-suc s)
+
+-- a number that is a sum of n chips has n bits
+value-lt : (n : ℕ) (f : ℕ → ℕ) → ((i : ℕ) → f i < 2) → sumTo n (λ i. f i * 2 ^ i) < 2 ^ n
+unfolding sumTo
+value-lt zero f h = lit< tt
+value-lt (suc n) f h =
+    let a = value-lt n f h in
+    let b = mul-le-mul-right (2 ^ n) (le-of-suc-le-suc (h n)) in
+    let c = two-pow-succ n in
+    let d = one-mul (2 ^ n) in
+    omega arith
+
+-- the base turned is a number of 64 chips
+pub turned-lt : (base s : ℕ) → turned base s < 2 ^ 64
+unfolding turned
+turned-lt base s = value-lt 64 (symbolChip base s) (symbol-chip-lt base s)
 
 -- chip k of the base turned by s is chip k of the symbol s
 pub turned-chip : (base s k : ℕ) → k < 64 → chip (turned base s) k ≡ symbolChip base s k

@@ -14,7 +14,7 @@ use Rattle.ccsk.specs.Demap.{samplesOf, frameOf, IsFrame}
 use Rattle.ccsk.specs.Part.{placeLlrs}
 use Rattle.ccsk.specs.Parts.{chipsTwice, llrsBy, stored}
 use Rattle.ccsk.proofs.LlrLaws.{length-llrs, stored-llrs, by-base, llr-small, llr-zero}
-use Rattle.ccsk.proofs.PartLaws.{place-there}
+use Rattle.ccsk.proofs.PartLaws.{there, place-part}
 
 -- the 64 entries from `at` on
 pub part-long : {A : Type 0} (xs : List A) (at : ℕ) → at + 64 ≤ length xs → length (take (at + 64 - at) (drop at xs)) ≡ 64
@@ -123,7 +123,9 @@ module _ (base top bottom qc : ℕ) (samples : List ℤ) where
 
   -- and are what `place_llrs` hands out for it
   pub frame-place : (i : ℕ) → i < length samples / 64 → placeLlrs (frameOf base top bottom qc samples) i ≡ llrsAt i
-  frame-place i l = place-there (frameOf base top bottom qc samples) i (let e = length-frame in omega arith) (let e = length-frame in omega arith) ∙ frame-part i l
+  frame-place i l =
+      place-part (frameOf base top bottom qc samples) i (there (frameOf base top bottom qc samples) i (let e = length-frame in omega arith) (let e = length-frame in omega arith))
+      ∙ frame-part i l
 
   -- entry 64 × i + v is the penalty of v for symbol i
   pub frame-entry : (i v : ℕ) → i < length samples / 64 → v < 64 → getD (frameOf base top bottom qc samples) (64 * i + v) 0 ≡ getD (llrsAt i) v 0

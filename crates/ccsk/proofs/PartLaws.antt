@@ -1,31 +1,59 @@
 -- The part of one place: empty, or the place's 64 numbers.
-use mathlib.Core.Path.{_≡_, refl, ap, ap₂, _∙_}
+use mathlib.Core.Path.{_≡_, refl, sym, ap, ap₂, _∙_}
 use mathlib.Core.Bool.{Bool, true, false, cond, _||_}
 use mathlib.Core.List.{List, []}
-use Prim.Native.Nat.{ℕ, _*_, _/_, _%_, _≤_, _<_}
+use Prim.Native.Nat.{ℕ, _+_, _*_, _/_, _%_, _-_, _≤_, _<_}
+use native.Mathlib.Omega.{arith}
 use borrow.Author.Tests.{le-leb, lt-leb}
 use lib.Dec.{leb}
 use lib.ListN.{length, take, drop}
 use Rattle.refusal.specs.Tests.{unequal}
 use Rattle.refusal.proofs.Within.{equal-false, unequal-true}
-use Rattle.ccsk.specs.Part.{noPlace, placeLlrs}
+use Rattle.ccsk.specs.Part.{noPlace, placeLlrs, partStart, Handed}
 
 module _ (frame : List ℕ) (place : ℕ) where
-  -- a slice that isn't whole vectors
-  pub ragged-empty : (length frame % 64 ≡ 0 → ⊥) → placeLlrs frame place ≡ []
-  unfolding placeLlrs noPlace
-  ragged-empty h = ap (λ (t : Bool). cond (t || leb (length frame / 64) place) [] (take 64 (drop (64 * place) frame))) (unequal-true (length frame % 64) 0 h)
+  -- a slice that isn't whole vectors has no place
+  pub ragged : (length frame % 64 ≡ 0 → ⊥) → noPlace frame place ≡ true
+  unfolding noPlace
+  ragged h = ap (λ (t : Bool). t || leb (length frame / 64) place) (unequal-true (length frame % 64) 0 h)
 
-  -- a place outside it
-  pub outside-empty : length frame / 64 ≤ place → placeLlrs frame place ≡ []
-  unfolding placeLlrs noPlace
-  outside-empty h = ap (λ (t : Bool). cond (unequal (length frame % 64) 0 || t) [] (take 64 (drop (64 * place) frame))) (le-leb _ _ h) ∙ go (unequal (length frame % 64) 0)
+  -- nor is a place beyond it one
+  pub beyond : length frame / 64 ≤ place → noPlace frame place ≡ true
+  unfolding noPlace
+  beyond h = ap (λ (t : Bool). unequal (length frame % 64) 0 || t) (le-leb (length frame / 64) place h) ∙ go (unequal (length frame % 64) 0)
     where
-      go : (t : Bool) → cond (t || true) [] (take 64 (drop (64 * place) frame)) ≡ []
+      go : (t : Bool) → t || true ≡ true
       go true = refl
       go false = refl
 
-  -- any other
-  pub place-there : length frame % 64 ≡ 0 → place < length frame / 64 → placeLlrs frame place ≡ take 64 (drop (64 * place) frame)
-  unfolding placeLlrs noPlace
-  place-there e l = ap₂ (λ (s t : Bool). cond (s || t) [] (take 64 (drop (64 * place) frame))) (equal-false (length frame % 64) 0 e) (lt-leb _ _ l)
+  -- any other is
+  pub there : length frame % 64 ≡ 0 → place < length frame / 64 → noPlace frame place ≡ false
+  unfolding noPlace
+  there e l = ap₂ (λ (s t : Bool). s || t) (equal-false (length frame % 64) 0 e) (lt-leb (length frame / 64) place l)
+
+  -- its 64 numbers
+  pub place-part : noPlace frame place ≡ false → placeLlrs frame place ≡ take 64 (drop (64 * place) frame)
+  unfolding placeLlrs
+  place-part e = ap (λ (t : Bool). cond t [] (take 64 (drop (64 * place) frame))) e
+
+  module _ (slice : ℕ × ℕ) where
+    -- what is handed out where there is no place: the empty part, from the slice's start on
+    pub empty-handed : noPlace frame place ≡ true → Handed frame slice place [] (slice .0, 0 * 2 + slice .1)
+    unfolding placeLlrs partStart
+    empty-handed e = record {
+      llrs = sym (ap (λ (t : Bool). cond t [] (take 64 (drop (64 * place) frame))) e);
+      block = refl;
+      offset = sym (ap (λ (t : Bool). cond t 0 (64 * place) * 2 + slice .1) e);
+    }
+
+    -- and where there is one: the 64 numbers from its start on
+    pub part-handed : noPlace frame place ≡ false → (start : ℕ) → start ≡ 64 * place
+        → Handed frame slice place (take (start + 64 - start) (drop start frame)) (slice .0, start * 2 + slice .1)
+    unfolding partStart
+    part-handed e start f =
+        let long : start + 64 - start ≡ 64 = omega arith in
+        record {
+          llrs = ap₂ (λ (n m : ℕ). take n (drop m frame)) long f ∙ sym (place-part e);
+          block = refl;
+          offset = ap (λ (n : ℕ). n * 2 + slice .1) f ∙ sym (ap (λ (t : Bool). cond t 0 (64 * place) * 2 + slice .1) e);
+        }

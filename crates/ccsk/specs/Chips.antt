@@ -4,6 +4,7 @@ use mathlib.Core.Path.{_≡_}
 use mathlib.Core.Bool.{cond}
 use lib.Dec.{eqb}
 use Rattle.refusal.specs.Table.{Row}
+use Rattle.refusal.specs.Tests.{outside}
 use Rattle.vector.specs.Vector.{sumTo}
 
 -- chip k of a number: its bit k
@@ -21,6 +22,10 @@ turned base s = sumTo 64 (λ k. symbolChip base s k * 2 ^ k)
 -- in how many chips the symbols s and v differ
 unfoldable pub differing : ℕ → ℕ → ℕ → ℕ
 differing base s v = sumTo 64 (λ k. cond (eqb (symbolChip base s k) (symbolChip base v k)) 0 1)
+
+-- 2: other than 1 to 256 symbols, spread or weighed
+abbrev pub countRow : ℕ → Row
+countRow count = (2, outside 1 256 count)
 
 -- 10: the base equals itself turned by 32 chips
 abbrev pub baseRow : ℕ → Row

@@ -10,8 +10,7 @@ use Rattle.refusal.specs.Table.{Row, refusalOf}
 use Rattle.refusal.specs.Tests.{outside, unequal, Within}
 use Rattle.refusal.specs.Rows.{lengthRow}
 use Rattle.vector.specs.Vector.{joined}
-use Rattle.ccsk.specs.Chips.{turned, baseRow}
-use Rattle.ccsk.specs.Spread.{countRow}
+use Rattle.ccsk.specs.Chips.{turned, countRow, baseRow}
 use Rattle.ccsk.specs.Samples.{llrs}
 
 -- the 64 samples of symbol i

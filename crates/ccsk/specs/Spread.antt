@@ -6,17 +6,13 @@ use mathlib.Core.List.{List, [], _∷_, map}
 use lib.Dec.{eqb}
 use lib.ListN.{length, getD}
 use Rattle.refusal.specs.Table.{Row, refusalOf}
-use Rattle.refusal.specs.Tests.{outside, Within}
+use Rattle.refusal.specs.Tests.{Within}
 use Rattle.refusal.specs.Rows.{lengthRow, symbolsRow}
-use Rattle.ccsk.specs.Chips.{turned, baseRow}
+use Rattle.ccsk.specs.Chips.{turned, countRow, baseRow}
 
 -- the numbers that the symbols are sent as, one a symbol
 unfoldable pub numbersOf : ℕ → List ℕ → List ℕ
 numbersOf base symbols = map (turned base) symbols
-
--- 2: other than 1 to 256 symbols
-abbrev pub countRow : ℕ → Row
-countRow count = (2, outside 1 256 count)
 
 -- the rows of document 01's table that `spread` has the input for, in its order
 abbrev pub spreadTable : ℕ → List ℕ → List ℕ → List Row

@@ -3,6 +3,8 @@
 mod chips;
 mod draws;
 mod encoding;
+mod spreading;
+mod weighing;
 
 fn main() {
     encoding::run_cases();

@@ -3,7 +3,7 @@ use mathlib.Core.Path.{_≡_, sym, ap₂, _∙_}
 use Prim.Native.Nat.{ℕ, _+_, _-_}
 use native.Mathlib.Omega.{arith}
 use lib.ListN.{take, drop}
-use Rattle.ccsk.proofs.PartLaws.{ragged-empty, outside-empty, place-there}
+use Rattle.ccsk.proofs.PartLaws.{ragged, beyond, there, empty-handed, part-handed}
 use borrow.Author.Needs.{needs}
 use Rattle.ccsk.proofs.part.place_llrs.Statement.{statement}
 use Rattle.ccsk.proofs.part.place_llrs.Tie as tie
@@ -18,7 +18,7 @@ part-result-end : tie.Need-part-result-end
 part-result-end c = search needs
 
 returns : tie.Need-returns
-returns c = sym (ragged-empty _ _ (c .before .if1 .taken))
+returns c = empty-handed _ _ _ (ragged _ _ (c .before .if1 .taken))
 
 sub-result-2 : tie.Need-sub-result-2
 sub-result-2 c = search needs
@@ -30,7 +30,7 @@ part-result-end-2 : tie.Need-part-result-end-2
 part-result-end-2 c = search needs
 
 returns-2 : tie.Need-returns-2
-returns-2 c = sym (outside-empty _ _ (c .before .if2 .taken))
+returns-2 c = empty-handed _ _ _ (beyond _ _ (c .before .if2 .taken))
 
 start-of-requires : tie.Need-start-of-requires
 start-of-requires c κs = search needs
@@ -51,12 +51,7 @@ part-result-end-3 : tie.Need-part-result-end-3
 part-result-end-3 c = search needs
 
 returns-3 : tie.Need-returns-3
-returns-3 c =
-    let s = c .before .start-of .result in
-    let a = c .before .before .before .before .before .args in
-    let k : s + 64 - s ≡ 64 = omega arith in
-    ap₂ (λ (n m : ℕ). take n (drop m (a .llrs .now))) k (c .before .start-of .ensures)
-    ∙ sym (place-there (a .llrs .now) (a .place) (c .before .before .before .if1 .left) (c .before .before .if2 .left))
+returns-3 c = part-handed _ _ _ (there _ _ (c .before .before .before .if1 .left) (c .before .before .if2 .left)) _ (c .before .start-of .ensures)
 
 pub place-llrs-spec : {M : Type 1} → statement M
 place-llrs-spec =

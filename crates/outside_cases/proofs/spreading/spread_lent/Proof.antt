@@ -2,8 +2,8 @@
 use mathlib.Core.Path.{sym}
 use lib.Seq.{length-take-le}
 use borrow.Author.Needs.{needs}
-use Rattle.outside_cases.proofs.chips.spread_lent.Statement.{statement}
-use Rattle.outside_cases.proofs.chips.spread_lent.Tie as tie
+use Rattle.outside_cases.proofs.spreading.spread_lent.Statement.{statement}
+use Rattle.outside_cases.proofs.spreading.spread_lent.Tie as tie
 
 lent-length-requires : tie.Need-lent-length-requires
 lent-length-requires c κs = search needs

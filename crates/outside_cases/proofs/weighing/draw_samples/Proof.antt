@@ -3,8 +3,8 @@ use mathlib.Core.Path.{_≡_}
 use Prim.Native.Nat.{_-_, _≤_}
 use lib.ListN.{length}
 use borrow.Author.Needs.{needs}
-use Rattle.outside_cases.proofs.chips.draw_samples.Statement.{statement}
-use Rattle.outside_cases.proofs.chips.draw_samples.Tie as tie
+use Rattle.outside_cases.proofs.weighing.draw_samples.Statement.{statement}
+use Rattle.outside_cases.proofs.weighing.draw_samples.Tie as tie
 
 abbrev Inv-loop : tie.InvT-loop
 Inv-loop state mode base count samples₀ last₀ i₀ samples last i = (i ≤ count) × (length samples ≡ length samples₀)

@@ -2,8 +2,8 @@
 use mathlib.Core.Path.{sym}
 use lib.Seq.{length-take-le}
 use borrow.Author.Needs.{needs}
-use Rattle.outside_cases.proofs.chips.demap_lent.Statement.{statement}
-use Rattle.outside_cases.proofs.chips.demap_lent.Tie as tie
+use Rattle.outside_cases.proofs.weighing.demap_lent.Statement.{statement}
+use Rattle.outside_cases.proofs.weighing.demap_lent.Tie as tie
 
 step-requires : tie.Need-step-requires
 step-requires c κs = search needs

@@ -1,15 +1,15 @@
--- `spread_line` ends.
+-- `demap_line` ends.
 use Prim.Native.Nat.{_-_, _≤_}
 use lib.ListN.{length}
 use borrow.Author.Needs.{needs}
-use Rattle.outside_cases.proofs.chips.spread_line.Statement.{statement}
-use Rattle.outside_cases.proofs.chips.spread_line.Tie as tie
+use Rattle.outside_cases.proofs.weighing.demap_line.Statement.{statement}
+use Rattle.outside_cases.proofs.weighing.demap_line.Tie as tie
 
 abbrev Inv-loop : tie.InvT-loop
-Inv-loop base symbols numbers answer kept₀ i₀ kept i = i ≤ length numbers
+Inv-loop base samples top bottom qc llrs place answer kept₀ i₀ kept i = i ≤ length llrs
 
 abbrev μ-loop : tie.MeasureT-loop
-μ-loop base symbols numbers answer kept₀ i₀ kept i = length numbers - i
+μ-loop base samples top bottom qc llrs place answer kept₀ i₀ kept i = length llrs - i
 
 slice-aggregate-write-all : tie.Need-slice-aggregate-write-all Inv-loop μ-loop
 slice-aggregate-write-all c = search needs
@@ -17,8 +17,8 @@ slice-aggregate-write-all c = search needs
 write-all-requires : tie.Need-write-all-requires Inv-loop μ-loop
 write-all-requires c κs = search needs
 
-spread-requires : tie.Need-spread-requires Inv-loop μ-loop
-spread-requires c κs = search needs
+demap-requires : tie.Need-demap-requires Inv-loop μ-loop
+demap-requires c κs = search needs
 
 cast-print-number : tie.Need-cast-print-number Inv-loop μ-loop
 cast-print-number c = search needs
@@ -29,11 +29,14 @@ print-number-requires c κs = search needs
 loop-holds : tie.Need-loop-holds Inv-loop μ-loop
 loop-holds c = search needs
 
-mul-print-entry : tie.Need-mul-print-entry Inv-loop μ-loop
-mul-print-entry c = search needs
+mul-wide : tie.Need-mul-wide Inv-loop μ-loop
+mul-wide c = search needs
 
-slice-read-print-entry : tie.Need-slice-read-print-entry Inv-loop μ-loop
-slice-read-print-entry c = search needs
+slice-read-wide : tie.Need-slice-read-wide Inv-loop μ-loop
+slice-read-wide c = search needs
+
+wide-requires : tie.Need-wide-requires Inv-loop μ-loop
+wide-requires c κs = search needs
 
 print-entry-requires : tie.Need-print-entry-requires Inv-loop μ-loop
 print-entry-requires c κs = search needs
@@ -53,31 +56,36 @@ loop-again c = search needs
 print-end-requires : tie.Need-print-end-requires Inv-loop μ-loop
 print-end-requires c κs = search needs
 
+part-line-requires : tie.Need-part-line-requires Inv-loop μ-loop
+part-line-requires c κs = search needs
+
 same-length : tie.Need-same-length Inv-loop μ-loop
 same-length c = search needs
 
 returns : tie.Need-returns Inv-loop μ-loop
 returns c = search needs
 
-pub spread-line-spec : {M : Type 1} → statement M
-spread-line-spec =
+pub demap-line-spec : {M : Type 1} → statement M
+demap-line-spec =
     tie.close
     (tie.spec
     Inv-loop
     μ-loop
     slice-aggregate-write-all
     write-all-requires
-    spread-requires
+    demap-requires
     cast-print-number
     print-number-requires
     loop-holds
-    mul-print-entry
-    slice-read-print-entry
+    mul-wide
+    slice-read-wide
+    wide-requires
     print-entry-requires
     add-kept
     add-i
     loop-less
     loop-again
     print-end-requires
+    part-line-requires
     same-length
     returns)

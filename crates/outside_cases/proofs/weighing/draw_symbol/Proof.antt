@@ -3,8 +3,8 @@ use mathlib.Core.Path.{_≡_}
 use Prim.Native.Nat.{_-_, _≤_}
 use lib.ListN.{length}
 use borrow.Author.Needs.{needs}
-use Rattle.outside_cases.proofs.chips.draw_symbol.Statement.{statement}
-use Rattle.outside_cases.proofs.chips.draw_symbol.Tie as tie
+use Rattle.outside_cases.proofs.weighing.draw_symbol.Statement.{statement}
+use Rattle.outside_cases.proofs.weighing.draw_symbol.Tie as tie
 
 abbrev Inv-loop : tie.InvT-loop
 Inv-loop state mode base first samples₀ a last₀ symbol amplitude k₀ samples last k = (k ≤ 64) × (length samples ≡ length samples₀)

@@ -2,8 +2,8 @@
 use Prim.Native.Nat.{_-_, _≤_}
 use lib.ListN.{length}
 use borrow.Author.Needs.{needs}
-use Rattle.outside_cases.proofs.chips.part_line.Statement.{statement}
-use Rattle.outside_cases.proofs.chips.part_line.Tie as tie
+use Rattle.outside_cases.proofs.weighing.part_line.Statement.{statement}
+use Rattle.outside_cases.proofs.weighing.part_line.Tie as tie
 
 abbrev Inv-loop : tie.InvT-loop
 Inv-loop llrs place part i₀ t6 i = i ≤ length part
