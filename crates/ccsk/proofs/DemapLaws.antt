@@ -1,4 +1,4 @@
--- What it means that `demap` takes its input, and what it leaves.
+-- What it means that `demap` takes its input, and what it then hands its part.
 use mathlib.Core.Path.{_≡_}
 use mathlib.Core.List.{List}
 use Prim.Native.Nat.{ℕ, _/_, _%_}
@@ -7,10 +7,10 @@ use lib.Dec.{lit<}
 use lib.IntN.{ℤ}
 use lib.ListN.{length}
 use Rattle.refusal.specs.Table.{Numbered}
-use Rattle.refusal.proofs.Laws.{taken-none, none-taken, when-taken, when-refused}
+use Rattle.refusal.proofs.Laws.{taken-none, none-taken}
 use Rattle.refusal.proofs.Within.{inside-within, within-inside, false-equal, equal-false}
 use Rattle.ccsk.specs.Chips.{turned}
-use Rattle.ccsk.specs.Demap.{frameOf, demapTable, demapRefusal, demapBuffer, Demappable}
+use Rattle.ccsk.specs.Demap.{demapTable, demapRefusal, Demappable}
 use Rattle.ccsk.specs.Parts.{Symbols}
 
 module _ (base top bottom qc : ℕ) (samples : List ℤ) (buffer : List ℕ) where
@@ -62,13 +62,3 @@ module _ (base top bottom qc : ℕ) (samples : List ℤ) (buffer : List ℕ) whe
     room = t .buffer-long;
     scale = record { gain-top = t .gain-top; gain-bottom = t .gain-bottom; precision = t .precision };
   }
-
-  -- the buffer where the input is taken
-  pub buffer-taken : demapRefusal base top bottom qc samples buffer ≡ 0 → demapBuffer base top bottom qc samples buffer ≡ frameOf base top bottom qc samples
-  unfolding demapBuffer
-  buffer-taken e = when-taken _ _ buffer e
-
-  -- and where it is refused: what it held
-  pub buffer-refused : (demapRefusal base top bottom qc samples buffer ≡ 0 → ⊥) → demapBuffer base top bottom qc samples buffer ≡ buffer
-  unfolding demapBuffer
-  buffer-refused h = when-refused _ (frameOf base top bottom qc samples) buffer h

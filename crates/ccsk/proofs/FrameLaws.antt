@@ -7,10 +7,10 @@ use native.Mathlib.Omega.{arith}
 use lib.IntN.{ℤ}
 use lib.ListN.{length, getD, take, drop, length-append, length-drop}
 use lib.Seq.{take-all, take-at, length-take-le, take-append-add, getD-take, getD-drop}
-use Rattle.vector.specs.Vector.{joined}
+use Rattle.vector.specs.Vector.{vectorAt, joined}
 use Rattle.vector.proofs.Laws.{length-joined, joined-part}
 use Rattle.ccsk.specs.Samples.{llrs}
-use Rattle.ccsk.specs.Demap.{samplesOf, frameOf, IsFrame}
+use Rattle.ccsk.specs.Demap.{frameOf, IsFrame}
 use Rattle.ccsk.specs.Part.{placeLlrs}
 use Rattle.ccsk.specs.Parts.{chipsTwice, llrsBy, stored}
 use Rattle.ccsk.proofs.LlrLaws.{length-llrs, stored-llrs, by-base, llr-small, llr-zero}
@@ -23,7 +23,7 @@ part-long xs at l = let e : at + 64 - at ≡ 64 = omega arith in rw e (length-ta
 module _ (base top bottom qc : ℕ) (samples : List ℤ) where
   -- the 64 penalties of symbol i
   abbrev llrsAt : ℕ → List ℕ
-  llrsAt i = llrs base top bottom qc (samplesOf samples i)
+  llrsAt i = llrs base top bottom qc (vectorAt samples i)
 
   -- how far the frame is written: what stands before `at` are the penalties of the symbols before
   pub record Written (buffer : List ℕ) (at : ℕ) : Type 0 where
@@ -83,7 +83,7 @@ module _ (base top bottom qc : ℕ) (samples : List ℤ) where
 
       -- so one symbol more is written
       written-more : Written after (at + 64)
-      unfolding joined samplesOf
+      unfolding joined vectorAt
       written-more =
           let start : at ≡ 64 * (at / 64) = (let a = h .whole in omega arith) in
           let next : suc (at / 64) ≡ (at + 64) / 64 = omega arith in
@@ -114,12 +114,12 @@ module _ (base top bottom qc : ℕ) (samples : List ℤ) where
   -- the frame has 64 penalties for each symbol
   pub length-frame : length (frameOf base top bottom qc samples) ≡ 64 * (length samples / 64)
   unfolding frameOf
-  length-frame = length-joined 64 llrsAt (λ i. length-llrs base top bottom qc (samplesOf samples i)) (length samples / 64)
+  length-frame = length-joined 64 llrsAt (λ i. length-llrs base top bottom qc (vectorAt samples i)) (length samples / 64)
 
   -- those from 64 × i on are symbol i's
-  frame-part : (i : ℕ) → i < length samples / 64 → take 64 (drop (64 * i) (frameOf base top bottom qc samples)) ≡ llrsAt i
-  unfolding frameOf
-  frame-part i l = joined-part 64 llrsAt (λ j. length-llrs base top bottom qc (samplesOf samples j)) (length samples / 64) i l
+  frame-part : (i : ℕ) → i < length samples / 64 → vectorAt (frameOf base top bottom qc samples) i ≡ llrsAt i
+  unfolding frameOf vectorAt
+  frame-part i l = joined-part 64 llrsAt (λ j. length-llrs base top bottom qc (vectorAt samples j)) (length samples / 64) i l
 
   -- and are what `place_llrs` hands out for it
   pub frame-place : (i : ℕ) → i < length samples / 64 → placeLlrs (frameOf base top bottom qc samples) i ≡ llrsAt i
@@ -129,6 +129,7 @@ module _ (base top bottom qc : ℕ) (samples : List ℤ) where
 
   -- entry 64 × i + v is the penalty of v for symbol i
   pub frame-entry : (i v : ℕ) → i < length samples / 64 → v < 64 → getD (frameOf base top bottom qc samples) (64 * i + v) 0 ≡ getD (llrsAt i) v 0
+  unfolding vectorAt
   frame-entry i v l s =
       sym (getD-drop (64 * i) (frameOf base top bottom qc samples) v 0) ∙ sym (getD-take 64 (drop (64 * i) (frameOf base top bottom qc samples)) v 0 s)
       ∙ ap (λ (w : List ℕ). getD w v 0) (frame-part i l)
@@ -142,10 +143,10 @@ module _ (base top bottom qc : ℕ) (samples : List ℤ) where
         let small : j % 64 < 64 = omega arith in
         let here : 64 * (j / 64) + j % 64 ≡ j = omega arith in
         let e = ap (λ (n : ℕ). getD (frameOf base top bottom qc samples) n 0) (sym here) ∙ frame-entry (j / 64) (j % 64) in-frame small in
-        subst (λ (x : ℕ). x ≤ 2 ^ qc - 1) (sym e) (llr-small base top bottom qc (samplesOf samples (j / 64)) (j % 64) small);
+        subst (λ (x : ℕ). x ≤ 2 ^ qc - 1) (sym e) (llr-small base top bottom qc (vectorAt samples (j / 64)) (j % 64) small);
     zeros = λ i l.
         let long = length-frame in
         let in-frame : i < length samples / 64 = omega arith in
-        let z = llr-zero base top bottom qc (samplesOf samples i) in
+        let z = llr-zero base top bottom qc (vectorAt samples i) in
         (z .0, z .1, frame-entry i (z .0) in-frame (z .1) ∙ z .2);
   }

@@ -12,11 +12,11 @@ use lib.IntN.{ℤ, pos, negℤ, natAbs}
 use lib.ListN.{length, getD}
 use lib.Pow.{pow-mono}
 use Rattle.refusal.specs.Tests.{Within}
-use Rattle.vector.specs.Vector.{least}
+use Rattle.vector.specs.Vector.{vectorAt, least}
 use Rattle.vector.proofs.Laws.{length-tabulate, getD-tabulate, length-joined, joined-part, sum-ext, sum-scale, least-le, less-least-at}
 use Rattle.ccsk.specs.Chips.{symbolChip, differing}
 use Rattle.ccsk.specs.Samples.{hardChip, magnitude, added, raw, rawLlrs, quantised, llrs}
-use Rattle.ccsk.specs.Demap.{samplesOf, frameOf}
+use Rattle.ccsk.specs.Demap.{frameOf}
 use Rattle.ccsk.specs.Part.{placeLlrs}
 use Rattle.ccsk.specs.Noiseless.{sentSample, sentSymbol, sentSamples, sentLlr, Weighed, Premise, Apart, Clean}
 use Rattle.ccsk.proofs.ChipLaws.{symbol-chip-lt}
@@ -153,8 +153,8 @@ module _ (base a : ℕ) (symbols : List ℕ) where
   length-sent-samples = length-joined 64 _ (λ i. length-sent base a (getD symbols i 0)) (length symbols)
 
   -- those of symbol i
-  sent-part : (i : ℕ) → i < length symbols → samplesOf (sentSamples base a symbols) i ≡ sentSymbol base a (getD symbols i 0)
-  unfolding sentSamples samplesOf
+  sent-part : (i : ℕ) → i < length symbols → vectorAt (sentSamples base a symbols) i ≡ sentSymbol base a (getD symbols i 0)
+  unfolding sentSamples vectorAt
   sent-part i l = joined-part 64 (λ j. sentSymbol base a (getD symbols j 0)) (λ j. length-sent base a (getD symbols j 0)) (length symbols) i l
 
   -- so the 64 numbers of place i are weighed from what is sent for symbol i

@@ -9,6 +9,7 @@ use lib.Dec.{leb}
 use lib.ListN.{length, take, drop}
 use Rattle.refusal.specs.Tests.{unequal}
 use Rattle.refusal.proofs.Within.{equal-false, unequal-true}
+use Rattle.vector.specs.Vector.{vectorAt}
 use Rattle.ccsk.specs.Part.{noPlace, placeLlrs, partStart, Handed}
 
 module _ (frame : List ℕ) (place : ℕ) where
@@ -32,16 +33,16 @@ module _ (frame : List ℕ) (place : ℕ) where
   there e l = ap₂ (λ (s t : Bool). s || t) (equal-false (length frame % 64) 0 e) (lt-leb (length frame / 64) place l)
 
   -- its 64 numbers
-  pub place-part : noPlace frame place ≡ false → placeLlrs frame place ≡ take 64 (drop (64 * place) frame)
+  pub place-part : noPlace frame place ≡ false → placeLlrs frame place ≡ vectorAt frame place
   unfolding placeLlrs
-  place-part e = ap (λ (t : Bool). cond t [] (take 64 (drop (64 * place) frame))) e
+  place-part e = ap (λ (t : Bool). cond t [] (vectorAt frame place)) e
 
   module _ (slice : ℕ × ℕ) where
     -- what is handed out where there is no place: the empty part, from the slice's start on
     pub empty-handed : noPlace frame place ≡ true → Handed frame slice place [] (slice .0, 0 * 2 + slice .1)
     unfolding placeLlrs partStart
     empty-handed e = record {
-      llrs = sym (ap (λ (t : Bool). cond t [] (take 64 (drop (64 * place) frame))) e);
+      llrs = sym (ap (λ (t : Bool). cond t [] (vectorAt frame place)) e);
       block = refl;
       offset = sym (ap (λ (t : Bool). cond t 0 (64 * place) * 2 + slice .1) e);
     }
@@ -49,7 +50,7 @@ module _ (frame : List ℕ) (place : ℕ) where
     -- and where there is one: the 64 numbers from its start on
     pub part-handed : noPlace frame place ≡ false → (start : ℕ) → start ≡ 64 * place
         → Handed frame slice place (take (start + 64 - start) (drop start frame)) (slice .0, start * 2 + slice .1)
-    unfolding partStart
+    unfolding partStart vectorAt
     part-handed e start f =
         let long : start + 64 - start ≡ 64 = omega arith in
         record {

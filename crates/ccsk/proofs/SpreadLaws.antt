@@ -1,4 +1,4 @@
--- What it means that `spread` takes its input, and what it leaves.
+-- What it means that `spread` takes its input.
 use mathlib.Core.Path.{_≡_}
 use mathlib.Core.List.{List}
 use Prim.Native.Nat.{ℕ}
@@ -6,10 +6,10 @@ use borrow.Author.Tests.{ne-eqb, eqb-false}
 use lib.Dec.{lit<}
 use lib.ListN.{length}
 use Rattle.refusal.specs.Table.{Numbered}
-use Rattle.refusal.proofs.Laws.{taken-none, none-taken, when-taken, when-refused}
+use Rattle.refusal.proofs.Laws.{taken-none, none-taken}
 use Rattle.refusal.proofs.Within.{inside-within, within-inside, none-within, within-none, false-equal, equal-false}
 use Rattle.ccsk.specs.Chips.{turned}
-use Rattle.ccsk.specs.Spread.{numbersOf, spreadTable, spreadRefusal, spreadBuffer, Spreadable}
+use Rattle.ccsk.specs.Spread.{spreadTable, spreadRefusal, Spreadable}
 
 module _ (base : ℕ) (symbols buffer : List ℕ) where
   -- no row has the number 0
@@ -39,13 +39,3 @@ module _ (base : ℕ) (symbols buffer : List ℕ) where
           (within-none 0 63 0 symbols (t .symbols-small), (ne-eqb (turned base 32) base (t .base-turns), tt)),
         ),
       )
-
-  -- the buffer where the input is taken
-  pub buffer-taken : spreadRefusal base symbols buffer ≡ 0 → spreadBuffer base symbols buffer ≡ numbersOf base symbols
-  unfolding spreadBuffer
-  buffer-taken e = when-taken _ _ buffer e
-
-  -- and where it is refused: what it held
-  pub buffer-refused : (spreadRefusal base symbols buffer ≡ 0 → ⊥) → spreadBuffer base symbols buffer ≡ buffer
-  unfolding spreadBuffer
-  buffer-refused h = when-refused _ (numbersOf base symbols) buffer h

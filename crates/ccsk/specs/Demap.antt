@@ -5,21 +5,17 @@ use mathlib.Core.Bool.{cond}
 use mathlib.Core.List.{List, [], _∷_}
 use lib.Dec.{eqb}
 use lib.IntN.{ℤ}
-use lib.ListN.{length, getD, take, drop}
+use lib.ListN.{length, getD}
 use Rattle.refusal.specs.Table.{Row, refusalOf}
 use Rattle.refusal.specs.Tests.{outside, unequal, Within}
 use Rattle.refusal.specs.Rows.{lengthRow}
-use Rattle.vector.specs.Vector.{joined}
+use Rattle.vector.specs.Vector.{vectorAt, joined}
 use Rattle.ccsk.specs.Chips.{turned, countRow, baseRow}
 use Rattle.ccsk.specs.Samples.{llrs}
 
--- the 64 samples of symbol i
-unfoldable pub samplesOf : List ℤ → ℕ → List ℤ
-samplesOf samples i = take 64 (drop (64 * i) samples)
-
--- the penalties of all symbols whose samples these are, 64 for each symbol
+-- the penalties of all symbols whose samples these are, 64 for each symbol: those of symbol i from its 64 samples
 unfoldable pub frameOf : (base top bottom qc : ℕ) → List ℤ → List ℕ
-frameOf base top bottom qc samples = joined (length samples / 64) (λ i. llrs base top bottom qc (samplesOf samples i))
+frameOf base top bottom qc samples = joined (length samples / 64) (λ i. llrs base top bottom qc (vectorAt samples i))
 
 -- 2: samples that are not 64 to a symbol
 abbrev pub wholeRow : ℕ → Row

@@ -4,8 +4,9 @@ use mathlib.Core.Path.{_≡_}
 use mathlib.Core.Bool.{Bool, cond, _||_}
 use mathlib.Core.List.{List, []}
 use lib.Dec.{leb}
-use lib.ListN.{length, take, drop}
+use lib.ListN.{length}
 use Rattle.refusal.specs.Tests.{unequal}
+use Rattle.vector.specs.Vector.{vectorAt}
 
 -- the slice isn't whole vectors of 64, or the place is outside it
 unfoldable pub noPlace : List ℕ → ℕ → Bool
@@ -13,7 +14,7 @@ noPlace frame place = unequal (length frame % 64) 0 || leb (length frame / 64) p
 
 -- the 64 penalties of one place; none where there is no such place
 unfoldable pub placeLlrs : List ℕ → ℕ → List ℕ
-placeLlrs frame place = cond (noPlace frame place) [] (take 64 (drop (64 * place) frame))
+placeLlrs frame place = cond (noPlace frame place) [] (vectorAt frame place)
 
 -- the number of the slice with which the part begins: the place's first, and for the empty part the slice's
 unfoldable pub partStart : List ℕ → ℕ → ℕ

@@ -10,10 +10,10 @@ use lib.Dec.{lit<}
 use lib.ListN.{length, getD, List·getD-eq-default}
 use lib.Pow.{pow-mono}
 use Rattle.refusal.specs.Table.{Numbered}
-use Rattle.refusal.proofs.Laws.{taken-none, none-taken, when-taken, when-refused}
+use Rattle.refusal.proofs.Laws.{taken-none, none-taken}
 use Rattle.refusal.proofs.Within.{inside-within, within-inside, none-within, within-none, false-equal, equal-false}
 use Rattle.polar.specs.Code.{messagePlaces, IsWord}
-use Rattle.polar.specs.Encode.{wordBefore, codewordOf, encodeTable, encodeRefusal, encodeBuffer, Encodable}
+use Rattle.polar.specs.Encode.{wordBefore, codewordOf, encodeTable, encodeRefusal, Encodable}
 use Rattle.polar.specs.Halves.{blockTransform}
 use Rattle.polar.specs.Parts.{Room, Block, Placing}
 use Rattle.polar.proofs.Numbers.{half-pow, lt-or-le}
@@ -74,16 +74,6 @@ module _ (n : ℕ) (map cs symbols buffer : List ℕ) where
           ),
         ),
       )
-
-  -- the buffer where the input is taken, and where it is refused
-  pub buffer-taken : encodeRefusal n map cs symbols buffer ≡ 0 → encodeBuffer n map cs symbols buffer ≡ codewordOf n map cs symbols
-  unfolding encodeBuffer
-  buffer-taken e = when-taken _ _ buffer e
-
-  -- refused: what it held
-  pub buffer-refused : (encodeRefusal n map cs symbols buffer ≡ 0 → ⊥) → encodeBuffer n map cs symbols buffer ≡ buffer
-  unfolding encodeBuffer
-  buffer-refused h = when-refused _ (codewordOf n map cs symbols) buffer h
 
 -- the coefficients of a block of 2^m places are among `all`, if those of its last layer are
 room-at : (m start stride all : ℕ) → start + m * stride + 2 ^ m / 2 ≤ all + stride → Room m start stride all

@@ -1,13 +1,17 @@
 -- Vectors of 64 numbers, one for each value of a symbol, in order of value; and the sums and the least of numbers by index.
-use Prim.Native.Nat.{ℕ, zero, suc, _+_, _-_, min}
+use Prim.Native.Nat.{ℕ, zero, suc, _+_, _*_, _-_, min}
 use mathlib.Core.List.{List, [], _∷_, _++_}
-use lib.ListN.{getD}
+use lib.ListN.{getD, take, drop}
 
 module _ {A : Type 0} where
   -- the list f 0, f 1, .., f (n − 1)
   unfoldable pub tabulate : ℕ → (ℕ → A) → List A
   tabulate zero f = []
   tabulate (suc n) f = f 0 ∷ tabulate n (λ i. f (suc i))
+
+  -- vector i of a slice: its 64 entries from 64 × i on
+  unfoldable pub vectorAt : List A → ℕ → List A
+  vectorAt xs i = take 64 (drop (64 * i) xs)
 
   -- the lists f 0, f 1, .., f (n − 1), one after the other
   unfoldable pub joined : ℕ → (ℕ → List A) → List A

@@ -1,7 +1,8 @@
 -- `demap` meets its contract: on a refusal nothing is written, and else its part writes all (DemapLaws).
 use mathlib.Core.Path.{_≡_, sym, _∙_}
-use Rattle.ccsk.specs.Demap.{demapRefusal}
-use Rattle.ccsk.proofs.DemapLaws.{taken, symbols, buffer-taken, buffer-refused}
+use Rattle.refusal.proofs.Laws.{when-taken, when-refused}
+use Rattle.ccsk.specs.Demap.{demapRefusal, demapBuffer}
+use Rattle.ccsk.proofs.DemapLaws.{taken, symbols}
 use borrow.Author.Needs.{needs}
 use Rattle.ccsk.proofs.demapper.demap.Statement.{statement}
 use Rattle.ccsk.proofs.demapper.demap.Tie as tie
@@ -21,9 +22,10 @@ same-length : tie.Need-same-length
 same-length c = search needs
 
 returns : tie.Need-returns
+unfolding demapBuffer
 returns c =
     let e = c .before .demap-refusal .ensures in
-    record { answer = e; frame = sym (buffer-refused _ _ _ _ _ _ (λ z. c .if1 .taken (e ∙ z))) }
+    record { answer = e; frame = sym (when-refused _ _ _ (λ z. c .if1 .taken (e ∙ z))) }
 
 write-llrs-requires : tie.Need-write-llrs-requires
 write-llrs-requires c κs = symbols _ _ _ _ _ _ (taken _ _ _ _ _ _ (none-fits (c .before)))
@@ -32,9 +34,10 @@ same-length-2 : tie.Need-same-length-2
 same-length-2 c = search needs
 
 returns-2 : tie.Need-returns-2
+unfolding demapBuffer
 returns-2 c =
     let z = none-fits (c .before .before .before .before) in
-    record { answer = sym z; frame = c .before .before .write-llrs .ensures ∙ sym (buffer-taken _ _ _ _ _ _ z) }
+    record { answer = sym z; frame = c .before .before .write-llrs .ensures ∙ sym (when-taken _ _ _ z) }
 
 pub demap-spec : {M : Type 1} → statement M
 demap-spec =

@@ -1,8 +1,5 @@
 -- `place_llrs` meets its contract: in each of its three cases the part is the one that the definition names (PartLaws).
-use mathlib.Core.Path.{_≡_, sym, ap₂, _∙_}
-use Prim.Native.Nat.{ℕ, _+_, _-_}
-use native.Mathlib.Omega.{arith}
-use lib.ListN.{take, drop}
+use Prim.Native.Nat.{_-_}
 use Rattle.ccsk.proofs.PartLaws.{ragged, beyond, there, empty-handed, part-handed}
 use borrow.Author.Needs.{needs}
 use Rattle.ccsk.proofs.part.place_llrs.Statement.{statement}

@@ -1,7 +1,8 @@
 -- `spread` meets its contract: on a refusal nothing is written, and else its part writes all (SpreadLaws).
 use mathlib.Core.Path.{_≡_, sym, _∙_}
-use Rattle.ccsk.specs.Spread.{spreadRefusal}
-use Rattle.ccsk.proofs.SpreadLaws.{taken, buffer-taken, buffer-refused}
+use Rattle.refusal.proofs.Laws.{when-taken, when-refused}
+use Rattle.ccsk.specs.Spread.{spreadRefusal, spreadBuffer}
+use Rattle.ccsk.proofs.SpreadLaws.{taken}
 use borrow.Author.Needs.{needs}
 use Rattle.ccsk.proofs.spreader.spread.Statement.{statement}
 use Rattle.ccsk.proofs.spreader.spread.Tie as tie
@@ -21,9 +22,10 @@ same-length : tie.Need-same-length
 same-length c = search needs
 
 returns : tie.Need-returns
+unfolding spreadBuffer
 returns c =
     let e = c .before .spread-refusal .ensures in
-    record { answer = e; numbers = sym (buffer-refused _ _ _ (λ z. c .if1 .taken (e ∙ z))) }
+    record { answer = e; numbers = sym (when-refused _ _ _ (λ z. c .if1 .taken (e ∙ z))) }
 
 write-numbers-requires : tie.Need-write-numbers-requires
 write-numbers-requires c κs = taken _ _ _ (none-fits (c .before)) .buffer-long
@@ -32,9 +34,10 @@ same-length-2 : tie.Need-same-length-2
 same-length-2 c = search needs
 
 returns-2 : tie.Need-returns-2
+unfolding spreadBuffer
 returns-2 c =
     let z = none-fits (c .before .before .before .before) in
-    record { answer = sym z; numbers = c .before .before .write-numbers .ensures ∙ sym (buffer-taken _ _ _ z) }
+    record { answer = sym z; numbers = c .before .before .write-numbers .ensures ∙ sym (when-taken _ _ _ z) }
 
 pub spread-spec : {M : Type 1} → statement M
 spread-spec =

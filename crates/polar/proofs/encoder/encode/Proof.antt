@@ -1,8 +1,9 @@
 -- `encode` meets its contract: on a refusal nothing is written, and else its parts make the codeword (EncodeLaws).
 use mathlib.Core.Path.{_≡_, sym, _∙_}
 use borrow.Author.Needs.{needs}
-use Rattle.polar.specs.Encode.{encodeRefusal, Encodable}
-use Rattle.polar.proofs.EncodeLaws.{taken, placing, whole-block, whole-word, buffer-taken, buffer-refused}
+use Rattle.refusal.proofs.Laws.{when-taken, when-refused}
+use Rattle.polar.specs.Encode.{encodeRefusal, encodeBuffer, Encodable}
+use Rattle.polar.proofs.EncodeLaws.{taken, placing, whole-block, whole-word}
 use Rattle.polar.proofs.encoder.encode.Statement.{statement}
 use Rattle.polar.proofs.encoder.encode.Tie as tie
 
@@ -24,9 +25,10 @@ same-length : tie.Need-same-length
 same-length c = search needs
 
 returns : tie.Need-returns
+unfolding encodeBuffer
 returns c =
     let e = c .before .encode-refusal .ensures in
-    record { answer = e; codeword = sym (buffer-refused _ _ _ _ _ (λ z. c .if1 .taken (e ∙ z))) }
+    record { answer = e; codeword = sym (when-refused _ _ _ (λ z. c .if1 .taken (e ∙ z))) }
 
 place-message-requires : tie.Need-place-message-requires
 place-message-requires c κs = placing _ _ _ _ _ (input (c .before))
@@ -38,12 +40,13 @@ same-length-2 : tie.Need-same-length-2
 same-length-2 c = search needs
 
 returns-2 : tie.Need-returns-2
+unfolding encodeBuffer
 returns-2 c =
     let e = c .before .before .before .before .before .before .before .before in
     record {
       answer = sym (none-fits e);
       codeword = whole-word _ _ _ _ _ (input e) _ _ (c .before .before .before .before .before .before .place-message .ensures) (c .before .before .transform-block .ensures)
-          ∙ sym (buffer-taken _ _ _ _ _ (none-fits e));
+          ∙ sym (when-taken _ _ _ (none-fits e));
     }
 
 pub encode-spec : {M : Type 1} → statement M
