@@ -114,12 +114,12 @@ module _ (base top bottom qc : ℕ) (samples : List ℤ) where
   -- the frame has 64 penalties for each symbol
   pub length-frame : length (frameOf base top bottom qc samples) ≡ 64 * (length samples / 64)
   unfolding frameOf
-  length-frame = length-joined 64 llrsAt (λ i. length-llrs base top bottom qc (vectorAt samples i)) (length samples / 64)
+  length-frame = length-joined 64 llrsAt (length samples / 64) (λ i l. length-llrs base top bottom qc (vectorAt samples i))
 
   -- those from 64 × i on are symbol i's
   frame-part : (i : ℕ) → i < length samples / 64 → vectorAt (frameOf base top bottom qc samples) i ≡ llrsAt i
   unfolding frameOf vectorAt
-  frame-part i l = joined-part 64 llrsAt (λ j. length-llrs base top bottom qc (vectorAt samples j)) (length samples / 64) i l
+  frame-part i l = joined-part 64 llrsAt (length samples / 64) (λ j k. length-llrs base top bottom qc (vectorAt samples j)) i l
 
   -- and are what `place_llrs` hands out for it
   pub frame-place : (i : ℕ) → i < length samples / 64 → placeLlrs (frameOf base top bottom qc samples) i ≡ llrsAt i

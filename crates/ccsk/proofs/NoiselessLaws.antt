@@ -140,7 +140,8 @@ module _ (base a s : ℕ) where
 
         -- where the premise holds, the 64 numbers are 0 at the symbol sent and nowhere else
         pub clean : Premise base a top bottom qc s → Clean base a top bottom qc s
-        clean p = record { sent = weighed .sent; only = λ v l e. go v l e (ℕ-discrete v s) }
+        unfolding sentLlr
+        clean p = record { there = weighed .sent; only = λ v l e. go v l e (ℕ-discrete v s) }
           where
             go : (v : ℕ) → v < 64 → sentLlr base a top bottom qc s v ≡ 0 → Dec (v ≡ s) → v ≡ s
             go v l e (yes q) = q
@@ -150,12 +151,12 @@ module _ (base a : ℕ) (symbols : List ℕ) where
   -- 64 samples are sent for each symbol
   pub length-sent-samples : length (sentSamples base a symbols) ≡ 64 * length symbols
   unfolding sentSamples
-  length-sent-samples = length-joined 64 _ (λ i. length-sent base a (getD symbols i 0)) (length symbols)
+  length-sent-samples = length-joined 64 _ (length symbols) (λ i l. length-sent base a (getD symbols i 0))
 
   -- those of symbol i
   sent-part : (i : ℕ) → i < length symbols → vectorAt (sentSamples base a symbols) i ≡ sentSymbol base a (getD symbols i 0)
   unfolding sentSamples vectorAt
-  sent-part i l = joined-part 64 (λ j. sentSymbol base a (getD symbols j 0)) (λ j. length-sent base a (getD symbols j 0)) (length symbols) i l
+  sent-part i l = joined-part 64 (λ j. sentSymbol base a (getD symbols j 0)) (length symbols) (λ j k. length-sent base a (getD symbols j 0)) i l
 
   -- so the 64 numbers of place i are weighed from what is sent for symbol i
   pub sent-place : (top bottom qc i : ℕ) → i < length symbols

@@ -7,7 +7,7 @@ use lib.Dec.{eqb}
 use lib.IntN.{ℤ, pos, negℤ}
 use lib.ListN.{length, getD}
 use Rattle.refusal.specs.Tests.{Within}
-use Rattle.vector.specs.Vector.{tabulate, joined}
+use Rattle.vector.specs.Vector.{tabulate, joined, OnlyZero}
 use Rattle.ccsk.specs.Chips.{symbolChip, differing}
 use Rattle.ccsk.specs.Samples.{llrs}
 
@@ -44,6 +44,5 @@ abbrev pub Apart : (base amplitude top bottom : ℕ) → Type 0
 Apart base amplitude top bottom = (d : ℕ) → Within 1 63 d → bottom ≤ amplitude * differing base 0 d * top
 
 -- the 64 numbers are 0 at the symbol sent and nowhere else
-pub record Clean (base amplitude top bottom qc s : ℕ) : Type 0 where
-  pub sent : sentLlr base amplitude top bottom qc s s ≡ 0
-  pub only : (v : ℕ) → v < 64 → sentLlr base amplitude top bottom qc s v ≡ 0 → v ≡ s
+abbrev pub Clean : (base amplitude top bottom qc : ℕ) → ℕ → Type 0
+Clean base amplitude top bottom qc s = OnlyZero (llrs base top bottom qc (sentSymbol base amplitude s)) s

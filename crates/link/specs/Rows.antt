@@ -3,7 +3,7 @@ use Prim.Native.Nat.{ℕ, _+_, _^_}
 use mathlib.Core.Path.{_≡_}
 use mathlib.Core.List.{List, [], _∷_, _++_, map}
 use lib.IntN.{ℤ, pos, negℤ}
-use lib.ListN.{replicate}
+use lib.ListN.{getD, set, replicate}
 use Rattle.vector.specs.Vector.{tabulate}
 use Rattle.gf64.specs.Field.{_⊙_}
 use Rattle.polar.specs.Transform.{transform}
@@ -11,6 +11,7 @@ use Rattle.ccsk.specs.Chips.{symbolChip, turned}
 use Rattle.ccsk.specs.Spread.{spreadRefusal}
 use Rattle.ccsk.specs.Demap.{frameOf, demapRefusal}
 use Rattle.ccsk.specs.Noiseless.{sentSymbol, Premise}
+use Rattle.scms.specs.Decoder.{capOf, held, symbols, report, count}
 
 -- samples +10 except chip 0 at −10
 abbrev pub workedSamples : List ℤ
@@ -54,9 +55,41 @@ gainRows =
     ∷ record { given = frameOf 1 1 20 3 workedSamples; expected = 0 ∷ replicate 63 1 }
     ∷ []
 
+-- a vector that is 0 at s and has this penalty at every other value
+abbrev pub zeroAt : (s penalty : ℕ) → List ℕ
+zeroAt s penalty = set (replicate 64 penalty) s 0
+
+-- the penalty held for the symbol that place i gets
+abbrev pub heldFor : (n cap : ℕ) (cs map frame : List ℕ) → ℕ → ℕ
+heldFor n cap cs map frame i = getD (held n cap cs map frame i) (getD (symbols n cap cs map frame) i 0) 0
+
+-- N = 2, coefficient 1, place 0 frozen; first vector 0 at 5, else 1; second 0 at 4, else 1 (the caps of Qm = 1 and of Qm = 13). Place 0 is 0 with
+-- penalty 1 held; place 1 has 0 at 4 and 5, 1 elsewhere, and is 4
+abbrev pub decoderRows : (cap : ℕ) → List Row
+decoderRows cap =
+    let frame = zeroAt 5 1 ++ zeroAt 4 1 in
+    record { given = symbols 1 cap (1 ∷ []) (1 ∷ 0 ∷ []) frame; expected = 0 ∷ 4 ∷ [] }
+    ∷ record { given = heldFor 1 cap (1 ∷ []) (1 ∷ 0 ∷ []) frame 0 ∷ []; expected = 1 ∷ [] }
+    ∷ record { given = held 1 cap (1 ∷ []) (1 ∷ 0 ∷ []) frame 1; expected = set (set (replicate 64 1) 4 0) 5 0 }
+    ∷ []
+
+-- the sheet 1, 1, 0, 2 (n = 1, place 0 frozen, coefficient 2); first vector 0 at 33, else 3; second 0 at 1, else 3. The symbols are 0 and 33. At
+-- Qm = 13, for each place the penalty held for its symbol and that held for every other value are 0 and 3, 0 and 6, and the count is 0. With
+-- Qc = Qm = 2 the 6 becomes 3 and the count is 63
+abbrev pub sheetRows : List Row
+sheetRows =
+    let frame = zeroAt 33 3 ++ zeroAt 1 3 in
+    record { given = symbols 1 (capOf 13) (2 ∷ []) (1 ∷ 0 ∷ []) frame; expected = 0 ∷ 33 ∷ [] }
+    ∷ record { given = report 1 (capOf 13) (2 ∷ []) (1 ∷ 0 ∷ []) frame; expected = zeroAt 0 3 ++ zeroAt 33 6 }
+    ∷ record { given = count 1 (capOf 13) (2 ∷ []) (1 ∷ 0 ∷ []) frame ∷ []; expected = 0 ∷ [] }
+    ∷ record { given = symbols 1 (capOf 2) (2 ∷ []) (1 ∷ 0 ∷ []) frame; expected = 0 ∷ 33 ∷ [] }
+    ∷ record { given = report 1 (capOf 2) (2 ∷ []) (1 ∷ 0 ∷ []) frame; expected = zeroAt 0 3 ++ zeroAt 33 3 }
+    ∷ record { given = count 1 (capOf 2) (2 ∷ []) (1 ∷ 0 ∷ []) frame ∷ []; expected = 63 ∷ [] }
+    ∷ []
+
 -- all rows
 abbrev pub rows : List Row
-rows = productRows ++ (transformRows ++ (baseRows ++ gainRows))
+rows = productRows ++ (transformRows ++ (baseRows ++ (gainRows ++ (decoderRows (capOf 1) ++ (decoderRows (capOf 13) ++ sheetRows)))))
 
 -- the claim over the whole table: every row's two sides are the same; and with gain 1/40, where those samples are what is sent for
 -- symbol 0 with amplitude 10, the noiseless statement's premise fails

@@ -39,14 +39,14 @@ module _ (half start : ℕ) (cs word after : List ℕ) (t : ℕ) (given : Halves
       let lθ : t < length after = omega arith in
       let lφ : half + t < length after = omega arith in
       let ne : t < half + t = omega arith in
-      let o = both-other after t (half + t) x r lθ lφ ne in
+      let o = both-other 0 after t (half + t) x r lθ lφ ne in
       let old = j .left t (omega arith) l in
       let h : getD cs (start + t) 0 ≡ getD cs (start + t) 1 = getD-any cs (start + t) 0 1 (let q = given .room in omega arith) in
       record {
         few = omega arith;
-        long = both-long after t (half + t) x r lθ lφ ne ∙ j .long;
-        done = λ s k. go s k (lt-or-le s t) o (both-first after t (half + t) x r lθ lφ ne ∙ ap₂ _⊕_ (old .0) (old .1))
-            (both-second after t (half + t) x r lθ lφ ne ∙ e ∙ ap₂ _⊙_ h (old .1));
+        long = both-long 0 after t (half + t) x r lθ lφ ne ∙ j .long;
+        done = λ s k. go s k (lt-or-le s t) o (both-first 0 after t (half + t) x r lθ lφ ne ∙ ap₂ _⊕_ (old .0) (old .1))
+            (both-second 0 after t (half + t) x r lθ lφ ne ∙ e ∙ ap₂ _⊙_ h (old .1));
         left = λ s a b. let k = j .left s (omega arith) b in (
           o s (λ q. absurd (omega arith)) (λ q. absurd (omega arith)) ∙ k .0,
           o (half + s) (λ q. absurd (omega arith)) (λ q. absurd (omega arith)) ∙ k .1,

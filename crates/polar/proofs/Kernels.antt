@@ -101,6 +101,10 @@ module _ (n d m : ℕ) (e : d + suc m ≡ n) where
       let b : t / c * (c + c) + (t % c + c) < 2 ^ d * (c + c) = digits-lt w (let r = rest t in omega arith) in
       omega arith
 
+  -- θ too
+  pub theta-lt : (t : ℕ) → t < 2 ^ n / 2 → theta n (suc d) t < 2 ^ n
+  theta-lt t l = let a = theta-lt-phi t in let b = phi-lt t l in omega arith
+
 -- each place is θ or φ of exactly one kernel of each layer
 pub one-kernel : (n d j : ℕ) → d < n → j < 2 ^ n → OneKernel n (suc d) j
 one-kernel n d j ld lj = go (lt-or-le s c)

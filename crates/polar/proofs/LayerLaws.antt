@@ -1,29 +1,137 @@
 -- What one layer does to a word, kernel by kernel: no kernel touches another's places.
-use mathlib.Core.Path.{_≡_, refl, sym, ap, ap₂, _∙_, subst}
-use mathlib.Core.Logic.{_⊎_, inl, inr}
+use mathlib.Core.Path.{_≡_, refl, sym, ap₂, _∙_, subst}
+use mathlib.Core.Logic.{_⊎_, inl, inr, ⊎-elim}
 use mathlib.Core.List.{List}
 use Prim.Native.Nat.{ℕ, zero, suc, _+_, _/_, _-_, _^_, _≤_, _<_}
 use native.Mathlib.Omega.{arith}
 use native.Mathlib.Nat.{le-refl}
 use lib.ListN.{length, getD, set, length-set}
 use Rattle.gf64.specs.Field.{_⊕_, _⊙_}
-use Rattle.polar.specs.Transform.{theta, phi, coefficient, kernel, kernels, layer, layers, Turned}
+use Rattle.gf64.proofs.SumLaws.{sum-lt}
+use Rattle.gf64.proofs.ProductLaws.{product-lt}
+use Rattle.polar.specs.Code.{IsWord}
+use Rattle.polar.specs.Transform.{theta, phi, coefficient, atKernel, atKernels, atLayer, layer, layers, Turned}
 use Rattle.polar.proofs.Numbers.{lt-or-le, both-first, both-second, both-other}
-use Rattle.polar.proofs.Kernels.{theta-theta, theta-phi, phi-phi, theta-lt-phi, phi-lt}
+use Rattle.polar.proofs.Kernels.{theta-theta, theta-phi, phi-phi, theta-lt-phi, phi-lt, theta-lt, one-kernel}
 
--- kernels keep the length of the word
-pub kernels-long : (n l k : ℕ) (cs x : List ℕ) → length (kernels n l k cs x) ≡ length x
-unfolding kernels kernel
-kernels-long n l zero cs x = refl
-kernels-long n l (suc k) cs x =
-    let y = kernels n l k cs x in
-    length-set (set y (theta n l k) (getD y (theta n l k) 0 ⊕ getD y (phi n l k) 0)) (phi n l k) (coefficient n l k cs ⊙ getD y (phi n l k) 0)
-    ∙ length-set y (theta n l k) (getD y (theta n l k) 0 ⊕ getD y (phi n l k) 0) ∙ kernels-long n l k cs x
+-- kernel t of layer l has made y from x at its two places, by its functions f and g
+pub record Made {A : Type 0} (d : A) (n l t : ℕ) (f g : A → A → A) (x y : List A) : Type 0 where
+  pub at-theta : getD y (theta n l t) d ≡ f (getD x (theta n l t) d) (getD x (phi n l t) d)
+  pub at-phi : getD y (phi n l t) d ≡ g (getD x (theta n l t) d) (getD x (phi n l t) d)
 
--- so does a layer
+module _ {A : Type 0} (d : A) (n l : ℕ) (f g : ℕ → A → A → A) where
+  -- kernels keep the length of a list
+  kernels-long : (k : ℕ) (x : List A) → length (atKernels d n l k f g x) ≡ length x
+  unfolding atKernels atKernel
+  kernels-long zero x = refl
+  kernels-long (suc k) x =
+      let y = atKernels d n l k f g x in
+      let p = getD y (theta n l k) d in
+      let r = getD y (phi n l k) d in
+      length-set (set y (theta n l k) (f k p r)) (phi n l k) (g k p r) ∙ length-set y (theta n l k) (f k p r) ∙ kernels-long k x
+
+  -- so does a layer
+  pub at-layer-long : (x : List A) → length (atLayer d n l f g x) ≡ length x
+  unfolding atLayer
+  at-layer-long x = kernels-long (2 ^ n / 2) x
+
+-- kernel t has left both
+record Kept {A : Type 0} (d : A) (n l t : ℕ) (x y : List A) : Type 0 where
+  at-theta : getD y (theta n l t) d ≡ getD x (theta n l t) d
+  at-phi : getD y (phi n l t) d ≡ getD x (phi n l t) d
+
+module _ {A : Type 0} (b : A) (n d m : ℕ) (e : d + suc m ≡ n) (f g : ℕ → A → A → A) (x : List A) (long : length x ≡ 2 ^ n) where
+  -- one kernel, k, on a list y as long as x
+  module _ (k : ℕ) (lk : k < 2 ^ n / 2) (y : List A) (ly : length y ≡ length x) where
+    -- its φ is a place of the list
+    φ-in : phi n (suc d) k < length y
+    φ-in = subst (λ (z : ℕ). phi n (suc d) k < z) (sym (ly ∙ long)) (phi-lt n d m e k lk)
+
+    -- so is its θ
+    θ-in : theta n (suc d) k < length y
+    θ-in = subst (λ (z : ℕ). theta n (suc d) k < z) (sym (ly ∙ long)) (theta-lt n d m e k lk)
+
+    -- what stands at θ
+    p : A
+    p = getD y (theta n (suc d) k) b
+
+    -- and at φ
+    r : A
+    r = getD y (phi n (suc d) k) b
+
+    -- another kernel's places are left
+    other : (t : ℕ) → (t ≡ k → ⊥) → Kept b n (suc d) t y (atKernel b n (suc d) k (f k) (g k) y)
+    unfolding atKernel p r
+    other t ne =
+        let w = both-other b y (theta n (suc d) k) (phi n (suc d) k) (f k p r) (g k p r) θ-in φ-in (theta-lt-phi n d m e k) in
+        record {
+          at-theta = w (theta n (suc d) t) (λ q. ne (theta-theta n d m e t k q)) (λ q. ne (theta-phi n d m e t k q));
+          at-phi = w (phi n (suc d) t) (λ q. ne (sym (theta-phi n d m e k t (sym q)))) (λ q. ne (phi-phi n d m e t k q));
+        }
+
+    -- its own two are made
+    made : Made b n (suc d) k (f k) (g k) y (atKernel b n (suc d) k (f k) (g k) y)
+    unfolding atKernel p r
+    made = record {
+      at-theta = both-first b y (theta n (suc d) k) (phi n (suc d) k) (f k p r) (g k p r) θ-in φ-in (theta-lt-phi n d m e k);
+      at-phi = both-second b y (theta n (suc d) k) (phi n (suc d) k) (f k p r) (g k p r) θ-in φ-in (theta-lt-phi n d m e k);
+    }
+
+  -- the kernels from k on have not been at their places yet
+  waiting : (k t : ℕ) → k ≤ t → t < 2 ^ n / 2 → Kept b n (suc d) t x (atKernels b n (suc d) k f g x)
+  unfolding atKernels
+  waiting zero t l lt = record { at-theta = refl; at-phi = refl }
+  waiting (suc k) t l lt =
+      let h = waiting k t (omega arith) lt in
+      let o = other k (omega arith) (atKernels b n (suc d) k f g x) (kernels-long b n (suc d) f g k x) t (λ q. absurd (omega arith)) in
+      record { at-theta = o .at-theta ∙ h .at-theta; at-phi = o .at-phi ∙ h .at-phi }
+
+  -- the kernels before k have been
+  done : (k t : ℕ) → k ≤ 2 ^ n / 2 → t < k → Made b n (suc d) t (f t) (g t) x (atKernels b n (suc d) k f g x)
+  unfolding atKernels
+  done zero t lk l = absurd (omega arith)
+  done (suc k) t lk l = go (lt-or-le t k) (done k t (omega arith))
+    where
+      y : List A
+      y = atKernels b n (suc d) k f g x
+
+      go : (t < k) ⊎ (k ≤ t) → (t < k → Made b n (suc d) t (f t) (g t) x y) → Made b n (suc d) t (f t) (g t) x (atKernel b n (suc d) k (f k) (g k) y)
+      go (inl s) ih =
+          let o = other k lk y (kernels-long b n (suc d) f g k x) t (λ q. absurd (omega arith)) in
+          record { at-theta = o .at-theta ∙ ih s .at-theta; at-phi = o .at-phi ∙ ih s .at-phi }
+      go (inr s) ih =
+          let w = waiting k k (le-refl k) lk in
+          let v = made k lk y (kernels-long b n (suc d) f g k x) in
+          subst (λ (z : ℕ). Made b n (suc d) z (f z) (g z) x (atKernel b n (suc d) k (f k) (g k) y)) (omega arith)
+          (record {
+            at-theta = v .at-theta ∙ ap₂ (f k) (w .at-theta) (w .at-phi);
+            at-phi = v .at-phi ∙ ap₂ (g k) (w .at-theta) (w .at-phi);
+          })
+
+  -- a layer makes the places of each of its kernels from what stood there
+  pub layer-made : (t : ℕ) → t < 2 ^ n / 2 → Made b n (suc d) t (f t) (g t) x (atLayer b n (suc d) f g x)
+  unfolding atLayer
+  layer-made t l = done (2 ^ n / 2) t (le-refl (2 ^ n / 2)) l
+
+  -- what holds of both places of each kernel holds of every place
+  pub each-place : (Q : ℕ → A → Type 0)
+      → ((t : ℕ) → t < 2 ^ n / 2 → Q (theta n (suc d) t) (f t (getD x (theta n (suc d) t) b) (getD x (phi n (suc d) t) b)))
+      → ((t : ℕ) → t < 2 ^ n / 2 → Q (phi n (suc d) t) (g t (getD x (theta n (suc d) t) b) (getD x (phi n (suc d) t) b)))
+      → (j : ℕ) → j < 2 ^ n → Q j (getD (atLayer b n (suc d) f g x) j b)
+  each-place Q at-θ at-φ j lj =
+      let k = one-kernel n d j (omega arith) lj in
+      let v = layer-made (k .number) (k .below) in
+      ⊎-elim
+      (λ q. subst (λ (i : ℕ). Q i (getD (atLayer b n (suc d) f g x) i b)) q (subst (Q (theta n (suc d) (k .number))) (sym (v .at-theta)) (at-θ (k .number) (k .below))))
+      (λ q. subst (λ (i : ℕ). Q i (getD (atLayer b n (suc d) f g x) i b)) q (subst (Q (phi n (suc d) (k .number))) (sym (v .at-phi)) (at-φ (k .number) (k .below))))
+      (k .joins)
+
+-- ---- the layers of the transform
+
+-- a layer keeps the length of the word
 pub layer-long : (n l : ℕ) (cs x : List ℕ) → length (layer n l cs x) ≡ length x
 unfolding layer
-layer-long n l cs x = kernels-long n l (2 ^ n / 2) cs x
+layer-long n l cs x = at-layer-long 0 n l (λ t p r. p ⊕ r) (λ t p r. coefficient n l t cs ⊙ r) x
 
 -- and so do layers
 pub layers-long : (n k : ℕ) (cs u : List ℕ) → length (layers n k cs u) ≡ length u
@@ -31,74 +139,28 @@ unfolding layers
 layers-long n zero cs u = refl
 layers-long n (suc k) cs u = layer-long n (n - k) cs (layers n k cs u) ∙ layers-long n k cs u
 
--- kernel t has left both
-record Kept (n l t : ℕ) (x y : List ℕ) : Type 0 where
-  at-theta : getD y (theta n l t) 0 ≡ getD x (theta n l t) 0
-  at-phi : getD y (phi n l t) 0 ≡ getD x (phi n l t) 0
+-- a layer turns the places of each of its kernels
+pub layer-turned : (n d m : ℕ) (e : d + suc m ≡ n) (cs x : List ℕ) → length x ≡ 2 ^ n → (t : ℕ) → t < 2 ^ n / 2 → Turned n (suc d) t cs x (layer n (suc d) cs x)
+unfolding layer
+layer-turned n d m e cs x long t l =
+    let v = layer-made 0 n d m e (λ t p r. p ⊕ r) (λ t p r. coefficient n (suc d) t cs ⊙ r) x long t l in
+    record { sum = v .at-theta; scaled = v .at-phi }
 
-module _ (n d m : ℕ) (e : d + suc m ≡ n) (cs x : List ℕ) (long : length x ≡ 2 ^ n) where
-  -- one kernel, k, on a word y as long as x
-  module _ (k : ℕ) (lk : k < 2 ^ n / 2) (y : List ℕ) (ly : length y ≡ length x) where
-    φ-in : phi n (suc d) k < length y
-    φ-in = subst (λ (z : ℕ). phi n (suc d) k < z) (sym (ly ∙ long)) (phi-lt n d m e k lk)
-
-    θ-in : theta n (suc d) k < length y
-    θ-in = let a = theta-lt-phi n d m e k in let b = φ-in in omega arith
-
-    p : ℕ
-    p = getD y (theta n (suc d) k) 0
-
-    r : ℕ
-    r = getD y (phi n (suc d) k) 0
-
-    other : (t : ℕ) → (t ≡ k → ⊥) → Kept n (suc d) t y (kernel n (suc d) k cs y)
-    unfolding kernel p r
-    other t ne =
-        let w = both-other y (theta n (suc d) k) (phi n (suc d) k) (p ⊕ r) (coefficient n (suc d) k cs ⊙ r) θ-in φ-in (theta-lt-phi n d m e k) in
-        record {
-          at-theta = w (theta n (suc d) t) (λ q. ne (theta-theta n d m e t k q)) (λ q. ne (theta-phi n d m e t k q));
-          at-phi = w (phi n (suc d) t) (λ q. ne (sym (theta-phi n d m e k t (sym q)))) (λ q. ne (phi-phi n d m e t k q));
-        }
-
-    turned : Turned n (suc d) k cs y (kernel n (suc d) k cs y)
-    unfolding kernel p r
-    turned = record {
-      sum = both-first y (theta n (suc d) k) (phi n (suc d) k) (p ⊕ r) (coefficient n (suc d) k cs ⊙ r) θ-in φ-in (theta-lt-phi n d m e k);
-      scaled = both-second y (theta n (suc d) k) (phi n (suc d) k) (p ⊕ r) (coefficient n (suc d) k cs ⊙ r) θ-in φ-in (theta-lt-phi n d m e k);
-    }
-
-  -- the kernels from k on have not been at their places yet
-  waiting : (k t : ℕ) → k ≤ t → t < 2 ^ n / 2 → Kept n (suc d) t x (kernels n (suc d) k cs x)
-  unfolding kernels
-  waiting zero t l lt = record { at-theta = refl; at-phi = refl }
-  waiting (suc k) t l lt =
-      let h = waiting k t (omega arith) lt in
-      let o = other k (omega arith) (kernels n (suc d) k cs x) (kernels-long n (suc d) k cs x) t (λ q. absurd (omega arith)) in
-      record { at-theta = o .at-theta ∙ h .at-theta; at-phi = o .at-phi ∙ h .at-phi }
-
-  -- the kernels before k have been
-  done : (k t : ℕ) → k ≤ 2 ^ n / 2 → t < k → Turned n (suc d) t cs x (kernels n (suc d) k cs x)
-  unfolding kernels
-  done zero t lk l = absurd (omega arith)
-  done (suc k) t lk l = go (lt-or-le t k) (done k t (omega arith))
-    where
-      y : List ℕ
-      y = kernels n (suc d) k cs x
-
-      go : (t < k) ⊎ (k ≤ t) → (t < k → Turned n (suc d) t cs x y) → Turned n (suc d) t cs x (kernel n (suc d) k cs y)
-      go (inl s) ih =
-          let o = other k lk y (kernels-long n (suc d) k cs x) t (λ q. absurd (omega arith)) in
-          record { sum = o .at-theta ∙ ih s .sum; scaled = o .at-phi ∙ ih s .scaled }
-      go (inr s) ih =
-          let w = waiting k k (le-refl k) lk in
-          let v = turned k lk y (kernels-long n (suc d) k cs x) in
-          subst (λ (z : ℕ). Turned n (suc d) z cs x (kernel n (suc d) k cs y)) (omega arith)
-          (record {
-            sum = v .sum ∙ ap₂ _⊕_ (w .at-theta) (w .at-phi);
-            scaled = v .scaled ∙ ap (λ (z : ℕ). coefficient n (suc d) k cs ⊙ z) (w .at-phi);
-          })
-
-  -- a layer turns the places of each of its kernels
-  pub layer-turned : (t : ℕ) → t < 2 ^ n / 2 → Turned n (suc d) t cs x (layer n (suc d) cs x)
-  unfolding layer
-  layer-turned t l = done (2 ^ n / 2) t (le-refl (2 ^ n / 2)) l
+-- the words between the layers are words
+pub layers-word : (n k : ℕ) (cs u : List ℕ) → k ≤ n → IsWord n u → IsWord n (layers n k cs u)
+unfolding layers layer
+layers-word n zero cs u l w = w
+layers-word n (suc k) cs u l w = go (n - suc k) (omega arith) (layers-word n k cs u (omega arith) w)
+  where
+    go : (d : ℕ) → d + suc k ≡ n → IsWord n (layers n k cs u) → IsWord n (layer n (n - k) cs (layers n k cs u))
+    go d e v =
+        let x = layers n k cs u in
+        let q : n - k ≡ suc d = omega arith in
+        subst (λ (i : ℕ). IsWord n (layer n i cs x)) (sym q) (record {
+          long = layer-long n (suc d) cs x ∙ v .long;
+          symbols = each-place 0 n d k e (λ t p r. p ⊕ r) (λ t p r. coefficient n (suc d) t cs ⊙ r) x (v .long) (λ j y. y < 64)
+              (λ t lt. sum-lt (getD x (theta n (suc d) t) 0) (getD x (phi n (suc d) t) 0)
+              (v .symbols (theta n (suc d) t) (theta-lt n d k e t lt))
+              (v .symbols (phi n (suc d) t) (phi-lt n d k e t lt)))
+              (λ t lt. product-lt (coefficient n (suc d) t cs) (getD x (phi n (suc d) t) 0));
+        })

@@ -3,6 +3,7 @@ pub mod Numbers
 pub mod TreeLaws
 pub mod Kernels
 pub mod LayerLaws
+pub mod Windows
 pub mod ByHalves
 pub mod OneToOne
 pub mod JoinLaws

@@ -41,8 +41,8 @@ getD-any (x ∷ xs) zero d e l = refl
 getD-any (x ∷ xs) (suc i) d e l = getD-any xs i d e (le-of-suc-le-suc l)
 
 -- two places of a list stored to
-module _ (xs : List ℕ) (i j x y : ℕ) (li : i < length xs) (lj : j < length xs) (ne : i < j) where
-  abbrev both : List ℕ
+module _ {A : Type 0} (d : A) (xs : List A) (i j : ℕ) (x y : A) (li : i < length xs) (lj : j < length xs) (ne : i < j) where
+  abbrev both : List A
   both = set (set xs i x) j y
 
   -- the length stays
@@ -50,13 +50,13 @@ module _ (xs : List ℕ) (i j x y : ℕ) (li : i < length xs) (lj : j < length x
   both-long = length-set (set xs i x) j y ∙ length-set xs i x
 
   -- what stands at the first place
-  pub both-first : getD both i 0 ≡ x
-  both-first = getD-set-other (set xs i x) j i y 0 (λ q. absurd (omega arith)) ∙ getD-set-same xs i x 0 li
+  pub both-first : getD both i d ≡ x
+  both-first = getD-set-other (set xs i x) j i y d (λ q. absurd (omega arith)) ∙ getD-set-same xs i x d li
 
   -- at the second
-  pub both-second : getD both j 0 ≡ y
-  both-second = getD-set-same (set xs i x) j y 0 (let e = length-set xs i x in omega arith)
+  pub both-second : getD both j d ≡ y
+  both-second = getD-set-same (set xs i x) j y d (let e = length-set xs i x in omega arith)
 
   -- and at any other
-  pub both-other : (k : ℕ) → (k ≡ i → ⊥) → (k ≡ j → ⊥) → getD both k 0 ≡ getD xs k 0
-  both-other k a b = getD-set-other (set xs i x) j k y 0 b ∙ getD-set-other xs i k x 0 a
+  pub both-other : (k : ℕ) → (k ≡ i → ⊥) → (k ≡ j → ⊥) → getD both k d ≡ getD xs k d
+  both-other k a b = getD-set-other (set xs i x) j k y d b ∙ getD-set-other xs i k x d a

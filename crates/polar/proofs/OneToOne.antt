@@ -19,13 +19,13 @@ use Rattle.polar.proofs.TreeLaws.{map2-at, ext-at, all-by, all-at, leng
 use Rattle.polar.proofs.ByHalves.{by-halves}
 
 -- a symbol, as a property of a place
-abbrev Symbol : ℕ → Type 0
+abbrev pub Symbol : ℕ → Type 0
 Symbol s = s < 64
 
 -- ---- by halves
 
 -- every coefficient is from 1 to 63
-pub AllNonZero : (m : ℕ) → Coefs m → Type 0
+unfoldable pub AllNonZero : (m : ℕ) → Coefs m → Type 0
 AllNonZero zero h = Unit {0}
 AllNonZero (suc m) h = All m NonZero (h .0) × AllNonZero m (h .1) × AllNonZero m (h .2)
 
@@ -39,7 +39,7 @@ pub sums-symbols : (m : ℕ) (a b : Tree ℕ m) → All m Symbol a → All m Sym
 sums-symbols m a b p q = all-map2 Symbol Symbol Symbol _⊕_ m a b sum-lt p q
 
 -- products are
-products-symbols : (m : ℕ) (h b : Tree ℕ m) → All m Symbol (map2 m _⊙_ h b)
+pub products-symbols : (m : ℕ) (h b : Tree ℕ m) → All m Symbol (map2 m _⊙_ h b)
 products-symbols m h b = all-by Symbol m (map2 m _⊙_ h b) (λ i. subst Symbol (sym (map2-at _⊙_ i h b)) (product-lt (at h i) (at b i)))
 
 -- division by h
@@ -71,7 +71,7 @@ quotients-symbols m h b =
     all-by Symbol m (map2 m quotient h b) (λ i. subst Symbol (sym (map2-at quotient i h b)) (product-lt (inverse (at h i)) (at b i)))
 
 -- the word before the transform, from the word after it
-undo : (m : ℕ) → Coefs m → Tree ℕ m → Tree ℕ m
+pub undo : (m : ℕ) → Coefs m → Tree ℕ m → Tree ℕ m
 undo zero h x = x
 undo (suc m) h x =
     let b = map2 m quotient (h .0) (x .1) in
@@ -88,7 +88,7 @@ transform-symbols (suc m) h u p =
     )
 
 -- and back
-undo-symbols : (m : ℕ) (h : Coefs m) (x : Tree ℕ m) → All m Symbol x → All m Symbol (undo m h x)
+pub undo-symbols : (m : ℕ) (h : Coefs m) (x : Tree ℕ m) → All m Symbol x → All m Symbol (undo m h x)
 unfolding undo All
 undo-symbols zero h x p = p
 undo-symbols (suc m) h x p =
@@ -110,7 +110,7 @@ undo-transform (suc m) h u g p =
     )
 
 -- and before it
-transform-undo : (m : ℕ) (h : Coefs m) (x : Tree ℕ m) → AllNonZero m h → All m Symbol x → transformTree m h (undo m h x) ≡ x
+pub transform-undo : (m : ℕ) (h : Coefs m) (x : Tree ℕ m) → AllNonZero m h → All m Symbol x → transformTree m h (undo m h x) ≡ x
 unfolding undo transformTree join All AllNonZero
 transform-undo zero h x g p = refl
 transform-undo (suc m) h x g p =
@@ -126,7 +126,7 @@ transform-undo (suc m) h x g p =
 -- ---- on lists
 
 -- a coefficient, and the 1 past the list's end, is a symbol other than 0
-coef-nonzero : (cs : List ℕ) → Coefficients cs → (i : ℕ) → NonZero (getD cs i 1)
+pub coef-nonzero : (cs : List ℕ) → Coefficients cs → (i : ℕ) → NonZero (getD cs i 1)
 coef-nonzero cs g i = go (lt-or-le i (length cs))
   where
     go : (i < length cs) ⊎ (length cs ≤ i) → NonZero (getD cs i 1)

@@ -7,7 +7,7 @@ use native.Mathlib.Omega.{arith}
 use lib.Arith.{lt-one}
 use lib.ListN.{length, getD, take, drop, length-append, length-drop, take-append-drop}
 use lib.Seq.{take-at, drop-at, length-take-le, getD-take, getD-drop}
-use Rattle.polar.specs.Tree.{Tree, map2, All, leaves, treeOf, Place, here, first, second, at, number}
+use Rattle.polar.specs.Tree.{Tree, map1, map2, map3, map4, All, All2, leaves, treeOf, Place, here, first, second, at, number}
 use Rattle.polar.proofs.Numbers.{two-pow, lt-or-le}
 
 -- a place's number is below 2^m
@@ -36,6 +36,43 @@ unfolding at map2
 map2-at f here a b = refl
 map2-at f (first p) a b = map2-at f p (a .0) (b .0)
 map2-at f (second p) a b = map2-at f p (a .1) (b .1)
+
+-- what `map1` gives at a place
+pub map1-at : {A B : Type 0} {m : ℕ} (f : A → B) (p : Place m) (a : Tree A m) → at (map1 m f a) p ≡ f (at a p)
+unfolding at map1
+map1-at f here a = refl
+map1-at f (first p) a = map1-at f p (a .0)
+map1-at f (second p) a = map1-at f p (a .1)
+
+-- `map3`
+pub map3-at : {A B C D : Type 0} {m : ℕ} (f : A → B → C → D) (p : Place m) (a : Tree A m) (b : Tree B m) (c : Tree C m)
+    → at (map3 m f a b c) p ≡ f (at a p) (at b p) (at c p)
+unfolding at map3
+map3-at f here a b c = refl
+map3-at f (first p) a b c = map3-at f p (a .0) (b .0) (c .0)
+map3-at f (second p) a b c = map3-at f p (a .1) (b .1) (c .1)
+
+-- and `map4`
+pub map4-at : {A B C D E : Type 0} {m : ℕ} (f : A → B → C → D → E) (p : Place m) (a : Tree A m) (b : Tree B m) (c : Tree C m) (d : Tree D m)
+    → at (map4 m f a b c d) p ≡ f (at a p) (at b p) (at c p) (at d p)
+unfolding at map4
+map4-at f here a b c d = refl
+map4-at f (first p) a b c d = map4-at f p (a .0) (b .0) (c .0) (d .0)
+map4-at f (second p) a b c d = map4-at f p (a .1) (b .1) (c .1) (d .1)
+
+module _ {A B : Type 0} (P : A → B → Type 0) where
+  -- a relation at each place is one of the trees
+  pub all2-by : (m : ℕ) (a : Tree A m) (b : Tree B m) → ((p : Place m) → P (at a p) (at b p)) → All2 m P a b
+  unfolding All2 at
+  all2-by zero a b h = h here
+  all2-by (suc m) a b h = (all2-by m (a .0) (b .0) (λ p. h (first p)), all2-by m (a .1) (b .1) (λ p. h (second p)))
+
+  -- and the other way round
+  pub all2-at : {m : ℕ} (p : Place m) (a : Tree A m) (b : Tree B m) → All2 m P a b → P (at a p) (at b p)
+  unfolding All2 at
+  all2-at here a b h = h
+  all2-at (first p) a b h = all2-at p (a .0) (b .0) (h .0)
+  all2-at (second p) a b h = all2-at p (a .1) (b .1) (h .1)
 
 module _ {A : Type 0} (P : A → Type 0) where
   -- a property at each place is one of the tree
@@ -104,6 +141,10 @@ module _ {A : Type 0} where
     pub leaves-at : {m : ℕ} (p : Place m) (t : Tree A m) → getD (leaves m t) (number p) d ≡ at t p
     leaves-at {m} p t = sym (treeOf-at (leaves m t) p) ∙ ap (λ (x : Tree A m). at x p) (treeOf-leaves m t)
 
+    -- by the number
+    pub leaves-number : (m i : ℕ) (l : i < 2 ^ m) (t : Tree A m) → getD (leaves m t) i d ≡ at t (place-of m i l .0)
+    leaves-number m i l t = let q = place-of m i l in ap (λ (x : ℕ). getD (leaves m t) x d) (sym (q .1)) ∙ leaves-at (q .0) t
+
     -- a list is a tree's if each place's thing stands at its number
     pub leaves-by : (m : ℕ) (xs : List A) (t : Tree A m) → length xs ≡ 2 ^ m → ((p : Place m) → getD xs (number p) d ≡ at t p) → xs ≡ leaves m t
     leaves-by m xs t e h = sym (leaves-treeOf m xs e) ∙ ap (leaves m) (ext-at m (treeOf d m xs) t (λ p. treeOf-at xs p ∙ h p))
@@ -114,6 +155,4 @@ module _ {A : Type 0} where
 
     -- and the other way round
     pub all-leaves : (P : A → Type 0) (m : ℕ) (t : Tree A m) → All m P t → (i : ℕ) → i < 2 ^ m → P (getD (leaves m t) i d)
-    all-leaves P m t h i l =
-        let q = place-of m i l in
-        subst P (sym (ap (λ (x : ℕ). getD (leaves m t) x d) (sym (q .1)) ∙ leaves-at (q .0) t)) (all-at P (q .0) t h)
+    all-leaves P m t h i l = subst P (sym (leaves-number m i l t)) (all-at P (place-of m i l .0) t h)

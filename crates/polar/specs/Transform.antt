@@ -18,21 +18,26 @@ phi n l t = theta n l t + 2 ^ (n - l)
 unfoldable pub coefficient : (n l t : ℕ) → List ℕ → ℕ
 coefficient n l t cs = getD cs ((l - 1) * (2 ^ n / 2) + t) 1
 
--- one kernel: (p, r) at θ and φ becomes (p ⊕ r, h ⊙ r)
-unfoldable pub kernel : (n l t : ℕ) → List ℕ → List ℕ → List ℕ
-kernel n l t cs x =
-    let p = getD x (theta n l t) 0 in
-    let r = getD x (phi n l t) 0 in
-    set (set x (theta n l t) (p ⊕ r)) (phi n l t) (coefficient n l t cs ⊙ r)
+module _ {A : Type 0} (d : A) where
+  -- kernel t of layer l on a list with something for each place: what stands at θ and φ becomes what f and g make of the two
+  unfoldable pub atKernel : (n l t : ℕ) → (A → A → A) → (A → A → A) → List A → List A
+  atKernel n l t f g x =
+      let p = getD x (theta n l t) d in
+      let r = getD x (phi n l t) d in
+      set (set x (theta n l t) (f p r)) (phi n l t) (g p r)
 
--- the kernels 0 to k − 1 of layer l
-unfoldable pub kernels : (n l k : ℕ) → List ℕ → List ℕ → List ℕ
-kernels n l zero cs x = x
-kernels n l (suc t) cs x = kernel n l t cs (kernels n l t cs x)
+  -- the kernels 0 to k − 1 of layer l; kernel t has the functions f t and g t
+  unfoldable pub atKernels : (n l k : ℕ) → (ℕ → A → A → A) → (ℕ → A → A → A) → List A → List A
+  atKernels n l zero f g x = x
+  atKernels n l (suc t) f g x = atKernel n l t (f t) (g t) (atKernels n l t f g x)
 
--- layer l: all its N/2 kernels
+  -- all N/2 kernels of layer l
+  unfoldable pub atLayer : (n l : ℕ) → (ℕ → A → A → A) → (ℕ → A → A → A) → List A → List A
+  atLayer n l f g x = atKernels n l (2 ^ n / 2) f g x
+
+-- layer l of the transform: each kernel turns (p, r) at its places into (p ⊕ r, h ⊙ r)
 unfoldable pub layer : (n l : ℕ) → List ℕ → List ℕ → List ℕ
-layer n l cs x = kernels n l (2 ^ n / 2) cs x
+layer n l cs x = atLayer 0 n l (λ t p r. p ⊕ r) (λ t p r. coefficient n l t cs ⊙ r) x
 
 -- the first k layers in the order of encoding: n, n − 1, .., n − k + 1
 unfoldable pub layers : (n k : ℕ) → List ℕ → List ℕ → List ℕ

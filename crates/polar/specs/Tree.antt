@@ -8,11 +8,34 @@ abbrev pub Tree : Type 0 → ℕ → Type 0
 Tree A zero = A
 Tree A (suc m) = Tree A m × Tree A m
 
+module _ {A B : Type 0} where
+  -- a function of what stands at each place
+  unfoldable pub map1 : (m : ℕ) → (A → B) → Tree A m → Tree B m
+  map1 zero f a = f a
+  map1 (suc m) f a = (map1 m f (a .0), map1 m f (a .1))
+
 module _ {A B C : Type 0} where
   -- a function of what stands at the same place of two trees
   unfoldable pub map2 : (m : ℕ) → (A → B → C) → Tree A m → Tree B m → Tree C m
   map2 zero f a b = f a b
   map2 (suc m) f a b = (map2 m f (a .0) (b .0), map2 m f (a .1) (b .1))
+
+module _ {A B C D : Type 0} where
+  -- of three
+  unfoldable pub map3 : (m : ℕ) → (A → B → C → D) → Tree A m → Tree B m → Tree C m → Tree D m
+  map3 zero f a b c = f a b c
+  map3 (suc m) f a b c = (map3 m f (a .0) (b .0) (c .0), map3 m f (a .1) (b .1) (c .1))
+
+module _ {A B C D E : Type 0} where
+  -- of four
+  unfoldable pub map4 : (m : ℕ) → (A → B → C → D → E) → Tree A m → Tree B m → Tree C m → Tree D m → Tree E m
+  map4 zero f a b c d = f a b c d
+  map4 (suc m) f a b c d = (map4 m f (a .0) (b .0) (c .0) (d .0), map4 m f (a .1) (b .1) (c .1) (d .1))
+
+-- the sum of the numbers at all places
+unfoldable pub treeSum : (m : ℕ) → Tree ℕ m → ℕ
+treeSum zero a = a
+treeSum (suc m) a = treeSum m (a .0) + treeSum m (a .1)
 
 module _ {A : Type 0} where
   -- a property of every place
@@ -24,6 +47,12 @@ module _ {A : Type 0} where
   unfoldable pub leaves : (m : ℕ) → Tree A m → List A
   leaves zero a = a ∷ []
   leaves (suc m) a = leaves m (a .0) ++ leaves m (a .1)
+
+module _ {A B : Type 0} where
+  -- a relation between what stands at the same place of two trees
+  unfoldable pub All2 : (m : ℕ) → (A → B → Type 0) → Tree A m → Tree B m → Type 0
+  All2 zero P a b = P a b
+  All2 (suc m) P a b = All2 m P (a .0) (b .0) × All2 m P (a .1) (b .1)
 
 module _ {A : Type 0} (d : A) where
   -- the tree of the first 2^m things of a list, d for each that is missing

@@ -38,32 +38,42 @@ module _ {A : Type 0} where
       ap₂ (λ (x : A) (xs : List A). x ∷ xs) (h 0 (omega arith)) (tabulate-ext n (λ i. f (suc i)) (λ i. g (suc i)) (λ i l. h (suc i) (omega arith)))
 
 -- lists of w entries each, one after the other
-module _ {A : Type 0} (w : ℕ) (f : ℕ → List A) (long : (i : ℕ) → length (f i) ≡ w) where
+module _ {A : Type 0} (w : ℕ) (f : ℕ → List A) where
   -- they have w entries for each
-  pub length-joined : (n : ℕ) → length (joined n f) ≡ w * n
+  pub length-joined : (n : ℕ) → ((i : ℕ) → i < n → length (f i) ≡ w) → length (joined n f) ≡ w * n
   unfolding joined
-  length-joined zero = sym (mul-zero w)
-  length-joined (suc n) = length-append (joined n f) (f n) ∙ ap₂ (λ (a b : ℕ). a + b) (length-joined n) (long n) ∙ sym (mul-suc w n)
+  length-joined zero long = sym (mul-zero w)
+  length-joined (suc n) long =
+      length-append (joined n f) (f n) ∙ ap₂ (λ (a b : ℕ). a + b) (length-joined n (λ i l. long i (omega arith))) (long n (le-refl (suc n))) ∙ sym (mul-suc w n)
 
   -- the w entries from w × i on are list i
-  pub joined-part : (n i : ℕ) → i < n → take w (drop (w * i) (joined n f)) ≡ f i
+  pub joined-part : (n : ℕ) → ((i : ℕ) → i < n → length (f i) ≡ w) → (i : ℕ) → i < n → take w (drop (w * i) (joined n f)) ≡ f i
   unfolding joined
-  joined-part zero i l = absurd (not-suc-le-zero l)
-  joined-part (suc n) i l = go (joined-part n i) (eq-or-lt-of-le (le-of-suc-le-suc l))
+  joined-part zero long i l = absurd (not-suc-le-zero l)
+  joined-part (suc n) long i l = go (joined-part n (λ j k. long j (omega arith)) i) (eq-or-lt-of-le (le-of-suc-le-suc l))
     where
+      total : length (joined n f) ≡ w * n
+      total = length-joined n (λ j k. long j (omega arith))
+
       go : (i < n → take w (drop (w * i) (joined n f)) ≡ f i) → (i ≡ n) ⊎ (i < n) → take w (drop (w * i) (joined n f ++ f n)) ≡ f i
       go ih (inl e) =
           ap (λ (j : ℕ). take w (drop (w * j) (joined n f ++ f n))) e
-          ∙ ap (take w) (drop-at (joined n f) (f n) (w * n) (length-joined n))
-          ∙ take-all w (f n) (le-of-eq (long n)) ∙ ap f (sym e)
+          ∙ ap (take w) (drop-at (joined n f) (f n) (w * n) total)
+          ∙ take-all w (f n) (le-of-eq (long n (le-refl (suc n)))) ∙ ap f (sym e)
       go ih (inr s) =
-          let a = length-joined n in
+          let a = total in
           let b = mul-le-mul-left w s in
           let c = mul-suc w i in
           let d = length-drop (w * i) (joined n f) in
           ap (take w) (drop-append-le (w * i) (joined n f) (f n) (omega arith))
           ∙ take-append-le w (drop (w * i) (joined n f)) (f n) (omega arith)
           ∙ ih s
+
+-- joined lists are equal by their parts
+pub joined-ext : {A : Type 0} (n : ℕ) (f g : ℕ → List A) → ((i : ℕ) → i < n → f i ≡ g i) → joined n f ≡ joined n g
+unfolding joined
+joined-ext zero f g h = refl
+joined-ext (suc n) f g h = ap₂ (λ (xs ys : List _). xs ++ ys) (joined-ext n f g (λ i l. h i (omega arith))) (h n (le-refl (suc n)))
 
 -- a function of each entry of a list
 pub tabulate-map : {B : Type 0} (d : ℕ) (f : ℕ → B) (xs : List ℕ) → tabulate (length xs) (λ i. f (getD xs i d)) ≡ map f xs
@@ -151,8 +161,30 @@ sum-le m (suc n) f h =
     let b = h n (le-refl (suc n)) in
     rw mul-suc (omega arith)
 
+-- a sum is 0 if all its terms are
+pub sum-none : (n : ℕ) (f : ℕ → ℕ) → ((i : ℕ) → i < n → f i ≡ 0) → sumTo n f ≡ 0
+unfolding sumTo
+sum-none zero f h = refl
+sum-none (suc n) f h = let a = sum-none n f (λ i l. h i (omega arith)) in let b = h n (le-refl (suc n)) in omega arith
+
+-- and no term is above the sum
+pub term-le : (n : ℕ) (f : ℕ → ℕ) (i : ℕ) → i < n → f i ≤ sumTo n f
+unfolding sumTo
+term-le zero f i l = absurd (not-suc-le-zero l)
+term-le (suc n) f i l = go (term-le n f i) (eq-or-lt-of-le (le-of-suc-le-suc l))
+  where
+    go : (i < n → f i ≤ sumTo n f) → (i ≡ n) ⊎ (i < n) → f i ≤ sumTo n f + f n
+    go ih (inl e) = subst (λ (j : ℕ). f j ≤ sumTo n f + f n) (sym e) (omega arith)
+    go ih (inr s) = let r = ih s in omega arith
+
+-- the sum of two terms each
+pub sum-add : (n : ℕ) (f g : ℕ → ℕ) → sumTo n (λ i. f i + g i) ≡ sumTo n f + sumTo n g
+unfolding sumTo
+sum-add zero f g = refl
+sum-add (suc n) f g = let e = sum-add n f g in omega arith
+
 -- no number is below the least
-least-to-le : (k : ℕ) (f : ℕ → ℕ) (b : ℕ) → b ≤ k → leastTo k f ≤ f b
+pub least-to-le : (k : ℕ) (f : ℕ → ℕ) (b : ℕ) → b ≤ k → leastTo k f ≤ f b
 unfolding leastTo
 least-to-le zero f zero h = le-refl (f zero)
 least-to-le zero f (suc b) h = absurd (not-suc-le-zero h)
@@ -163,7 +195,7 @@ least-to-le (suc k) f b h = go (least-to-le k f) (eq-or-lt-of-le h)
     go ih (inr l) = le-trans (min-le-left (leastTo k f) (f (suc k))) (ih b (le-of-suc-le-suc l))
 
 -- and one number is the least
-least-to-at : (k : ℕ) (f : ℕ → ℕ) → (b : ℕ) × (b ≤ k) × (f b ≡ leastTo k f)
+pub least-to-at : (k : ℕ) (f : ℕ → ℕ) → (b : ℕ) × (b ≤ k) × (f b ≡ leastTo k f)
 unfolding leastTo
 least-to-at zero f = (zero, le-refl zero, refl)
 least-to-at (suc k) f = go (least-to-at k f) (decLt (leastTo k f) (f (suc k)))

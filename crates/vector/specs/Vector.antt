@@ -1,5 +1,6 @@
 -- Vectors of 64 numbers, one for each value of a symbol, in order of value; and the sums and the least of numbers by index.
-use Prim.Native.Nat.{ℕ, zero, suc, _+_, _*_, _-_, min}
+use Prim.Native.Nat.{ℕ, zero, suc, _+_, _*_, _-_, _<_, min}
+use mathlib.Core.Path.{_≡_}
 use mathlib.Core.List.{List, [], _∷_, _++_}
 use lib.ListN.{getD, take, drop}
 
@@ -34,4 +35,15 @@ least v = leastTo 63 (λ b. getD v b 0)
 
 -- each of the 64 entries less the least of them
 unfoldable pub lessLeast : List ℕ → List ℕ
-lessLeast v = tabulate 64 (λ b. getD v b 0 - least v)
+lessLeast v = let l = least v in tabulate 64 (λ b. getD v b 0 - l)
+
+-- one of the 64 entries is 0
+pub record HasZero (v : List ℕ) : Type 0 where
+  pub zero-at : ℕ
+  pub within : zero-at < 64
+  pub is-zero : getD v zero-at 0 ≡ 0
+
+-- the entry of s is 0, and no other of the 64 is
+pub record OnlyZero (v : List ℕ) (s : ℕ) : Type 0 where
+  pub there : getD v s 0 ≡ 0
+  pub only : (b : ℕ) → b < 64 → getD v b 0 ≡ 0 → b ≡ s

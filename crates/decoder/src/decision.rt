@@ -1,0 +1,27 @@
+// The decision at one place, from the 64 llrs held for it.
+ghost use mathlib.Core.Path.{_≡_};
+ghost use Rattle.polar.specs.Code.{kindOf};
+ghost use Rattle.scms.specs.Decision.{smallest, decision};
+
+// The smallest value whose llr is least.
+fn smallest(v: &[u16; 64]) -> u8
+    ensures { λ r. ⌜ r ≡ smallest (now (v .entry)) ⌝ }
+{
+    let mut b: usize = 0;
+    let mut i: usize = 1;
+    while i < 64 {
+        if v[i] < v[b] {
+            b = i;
+        }
+        i += 1;
+    }
+    b as u8
+}
+
+// The symbol of a place with this map byte: byte 0 is a message place, which takes the smallest value whose llr is least; any other
+// byte is a frozen place, which holds 0.
+pub(crate) fn decide(byte: u8, v: [u16; 64]) -> u8
+    ensures { λ r. ⌜ r ≡ decision (kindOf byte) v ⌝ }
+{
+    if byte == 0 { smallest(&v) } else { 0 }
+}

@@ -1,0 +1,51 @@
+-- Totals by halves: what the nodes that join two halves do to the total of a word.
+use mathlib.Core.Path.{_≡_}
+use mathlib.Core.List.{List}
+use Prim.Native.Nat.{ℕ, zero, suc, _+_, _≤_}
+use native.Mathlib.Omega.{arith}
+use lib.ListN.{getD}
+use Rattle.gf64.specs.Field.{_⊕_, _⊙_}
+use Rattle.polar.specs.Tree.{Tree, map2, map3, map4, treeSum, All}
+use Rattle.polar.proofs.OneToOne.{Symbol}
+use Rattle.scms.specs.Halves.{Vectors, checkNodes, variableNodes, clippedNodes, takenNodes}
+use Rattle.scms.proofs.NodeLaws.{check-le, check-at, variable-exact}
+
+-- a vector's penalty for a symbol
+abbrev pub penalty : List ℕ → ℕ → ℕ
+penalty v s = getD v s 0
+
+-- the total of a word over the vectors of its places
+unfoldable pub treeTotal : (m : ℕ) → Vectors m → Tree ℕ m → ℕ
+treeTotal m f x = treeSum m (map2 m penalty f x)
+
+-- check nodes: no word of the second half makes the total of both halves smaller
+pub check-total-le : (m : ℕ) (h : Tree ℕ m) (f g : Vectors m) (a b : Tree ℕ m) → All m Symbol a → All m Symbol b
+    → treeTotal m (checkNodes m h f g) a ≤ treeTotal m f (map2 m _⊕_ a b) + treeTotal m g (map2 m _⊙_ h b)
+unfolding treeTotal checkNodes treeSum map2 map3 All
+check-total-le zero h f g a b la lb = check-le h f g a b la lb
+check-total-le (suc m) h f g a b la lb =
+    let p = check-total-le m (h .0) (f .0) (g .0) (a .0) (b .0) (la .0) (lb .0) in
+    let q = check-total-le m (h .1) (f .1) (g .1) (a .1) (b .1) (la .1) (lb .1) in
+    omega arith
+
+-- and one word of the second half attains it
+pub check-total-at : (m : ℕ) (h : Tree ℕ m) (f g : Vectors m) (a : Tree ℕ m) → All m Symbol a
+    → (b : Tree ℕ m) × All m Symbol b × (treeTotal m f (map2 m _⊕_ a b) + treeTotal m g (map2 m _⊙_ h b) ≡ treeTotal m (checkNodes m h f g) a)
+unfolding treeTotal checkNodes treeSum map2 map3 All
+check-total-at zero h f g a la = check-at h f g a la
+check-total-at (suc m) h f g a la =
+    let p = check-total-at m (h .0) (f .0) (g .0) (a .0) (la .0) in
+    let q = check-total-at m (h .1) (f .1) (g .1) (a .1) (la .1) in
+    let ep = p .2 in
+    let eq = q .2 in
+    ((p .0, q .0), (p .1, q .1), omega arith)
+
+-- variable nodes that clip nothing: what they hold and what they took off make the total of both halves
+pub variable-total : (m cap : ℕ) (h : Tree ℕ m) (f g : Vectors m) (u b : Tree ℕ m) → clippedNodes m cap h f g u ≡ 0 → All m Symbol b
+    → treeTotal m (variableNodes m cap h f g u) b + takenNodes m h f g u ≡ treeTotal m f (map2 m _⊕_ u b) + treeTotal m g (map2 m _⊙_ h b)
+unfolding treeTotal variableNodes clippedNodes takenNodes treeSum map2 map4 All
+variable-total zero cap h f g u b e lb = variable-exact h f g u cap e b lb
+variable-total (suc m) cap h f g u b e lb =
+    let p = variable-total m cap (h .0) (f .0) (g .0) (u .0) (b .0) (omega arith) (lb .0) in
+    let q = variable-total m cap (h .1) (f .1) (g .1) (u .1) (b .1) (omega arith) (lb .1) in
+    omega arith

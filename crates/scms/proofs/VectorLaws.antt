@@ -1,0 +1,108 @@
+-- The vectors of each layer, kernel by kernel, from those of the layer before.
+use mathlib.Core.Path.{_≡_, sym, ap, ap₂, _∙_}
+use mathlib.Core.List.{List, []}
+use Prim.Native.Nat.{ℕ, zero, suc, _+_, _*_, _/_, _-_, _^_, _≤_, _<_}
+use native.Mathlib.Numerals.{add-one}
+use native.Mathlib.Omega.{arith}
+use lib.ListN.{length, getD}
+use Rattle.refusal.specs.Tests.{Within}
+use Rattle.vector.specs.Vector.{vectorAt}
+use Rattle.vector.proofs.Laws.{length-tabulate, getD-tabulate}
+use Rattle.gf64.specs.Field.{NonZero}
+use Rattle.polar.specs.Code.{Coefficients, IsWord}
+use Rattle.polar.specs.Transform.{theta, phi, coefficient}
+use Rattle.polar.proofs.Kernels.{theta-lt}
+use Rattle.polar.proofs.LayerLaws.{at-layer-long, layer-made, each-place, layers-word}
+use Rattle.polar.proofs.OneToOne.{coef-nonzero}
+use Rattle.scms.specs.Nodes.{checkNode, clipped, lowered, variableNode}
+use Rattle.scms.specs.Decoder.{nodes, decidedAt, vectors, thetaVector, phiVector, loweredAt}
+use Rattle.scms.specs.Claims.{UpdateRule}
+use Rattle.scms.proofs.NodeLaws.{check-long, variable-long}
+
+-- every coefficient of an accepted code is a symbol other than 0
+pub coefficient-nonzero : (n l t : ℕ) (cs : List ℕ) → Coefficients cs → NonZero (coefficient n l t cs)
+unfolding coefficient
+coefficient-nonzero n l t cs g = coef-nonzero cs g ((l - 1) * (2 ^ n / 2) + t)
+
+-- the decided symbols are a word at every layer
+pub decided-word : (n : ℕ) (cs s : List ℕ) (l : ℕ) → l ≤ n → IsWord n s → IsWord n (decidedAt n cs s l)
+unfolding decidedAt
+decided-word n cs s l k w = layers-word n _ cs s (omega arith) w
+
+module _ (n cap : ℕ) (cs frame s : List ℕ) where
+  -- a layer has a vector for each place
+  pub vectors-long : (d : ℕ) → length (vectors n cap cs frame s d) ≡ 2 ^ n
+  unfolding vectors nodes
+  vectors-long zero = length-tabulate (2 ^ n) (vectorAt frame)
+  vectors-long (suc d) =
+      at-layer-long [] n (suc d) (λ t v w. checkNode (coefficient n (suc d) t cs) v w)
+      (λ t v w. variableNode cap (coefficient n (suc d) t cs) (getD (decidedAt n cs s (suc d)) (theta n (suc d) t) 0) v w)
+      (vectors n cap cs frame s d)
+      ∙ vectors-long d
+
+  -- those of layer 0 are the frame's
+  pub frame-vector : (i : ℕ) → i < 2 ^ n → getD (vectors n cap cs frame s 0) i [] ≡ vectorAt frame i
+  unfolding vectors
+  frame-vector i l = getD-tabulate [] (2 ^ n) (vectorAt frame) i l
+
+  -- θ's vector of layer d + 1 comes from layer d
+  pub theta-from : (d t : ℕ) → thetaVector n cap cs frame s (suc d) t ≡ getD (vectors n cap cs frame s d) (theta n (suc d) t) []
+  unfolding thetaVector
+  theta-from d t = let e : suc d - 1 ≡ d = omega arith in ap (λ (i : ℕ). getD (vectors n cap cs frame s i) (theta n (suc d) t) []) e
+
+  -- so does φ's
+  pub phi-from : (d t : ℕ) → phiVector n cap cs frame s (suc d) t ≡ getD (vectors n cap cs frame s d) (phi n (suc d) t) []
+  unfolding phiVector
+  phi-from d t = let e : suc d - 1 ≡ d = omega arith in ap (λ (i : ℕ). getD (vectors n cap cs frame s i) (phi n (suc d) t) []) e
+
+  module _ (d m : ℕ) (e : d + suc m ≡ n) where
+    -- the coefficient of kernel t of layer d + 1
+    abbrev h : ℕ → ℕ
+    h t = coefficient n (suc d) t cs
+
+    -- θ's symbol
+    abbrev u : ℕ → ℕ
+    u t = getD (decidedAt n cs s (suc d)) (theta n (suc d) t) 0
+
+    -- θ's vector
+    abbrev v : ℕ → List ℕ
+    v t = getD (vectors n cap cs frame s d) (theta n (suc d) t) []
+
+    -- φ's vector
+    abbrev w : ℕ → List ℕ
+    w t = getD (vectors n cap cs frame s d) (phi n (suc d) t) []
+
+    -- what holds of the check node and of the variable node of each kernel holds of the vector at every place
+    pub each-vector : (Q : ℕ → List ℕ → Type 0)
+        → ((t : ℕ) → t < 2 ^ n / 2 → Q (theta n (suc d) t) (checkNode (h t) (v t) (w t)))
+        → ((t : ℕ) → t < 2 ^ n / 2 → Q (phi n (suc d) t) (variableNode cap (h t) (u t) (v t) (w t)))
+        → (j : ℕ) → j < 2 ^ n → Q j (getD (vectors n cap cs frame s (suc d)) j [])
+    unfolding vectors nodes
+    each-vector Q a b =
+        each-place [] n d m e (λ t x y. checkNode (h t) x y) (λ t x y. variableNode cap (h t) (u t) x y) (vectors n cap cs frame s d) (vectors-long d) Q a b
+
+    -- u is a symbol
+    pub u-lt : IsWord n s → (t : ℕ) → t < 2 ^ n / 2 → u t < 64
+    u-lt iw t l = decided-word n cs s (suc d) (omega arith) iw .symbols (theta n (suc d) t) (theta-lt n d m e t l)
+
+-- the update rule holds at every kernel of every layer
+pub update-rule : (n cap : ℕ) (cs frame s : List ℕ) (l t : ℕ) → Within 1 n l → t < 2 ^ n / 2 → UpdateRule n cap cs frame s l t
+unfolding vectors nodes variableNode loweredAt
+update-rule n cap cs frame s zero t lw lt = absurd (let a = lw .least in omega arith)
+update-rule n cap cs frame s (suc d) t lw lt =
+    let e : d + suc (n - suc d) ≡ n = (let a = lw .most in omega arith) in
+    let h = coefficient n (suc d) t cs in
+    let u = getD (decidedAt n cs s (suc d)) (theta n (suc d) t) 0 in
+    let v = layer-made [] n d (n - suc d) e (λ i x y. checkNode (coefficient n (suc d) i cs) x y)
+    (λ i x y. variableNode cap (coefficient n (suc d) i cs) (getD (decidedAt n cs s (suc d)) (theta n (suc d) i) 0) x y)
+    (vectors n cap cs frame s d) (vectors-long n cap cs frame s d) t lt in
+    record {
+      at-theta = v .at-theta ∙ ap₂ (checkNode h) (sym (theta-from n cap cs frame s d t)) (sym (phi-from n cap cs frame s d t));
+      at-phi = v .at-phi ∙ ap₂ (λ (x y : List ℕ). clipped cap (lowered h u x y .left)) (sym (theta-from n cap cs frame s d t)) (sym (phi-from n cap cs frame s d t));
+    }
+
+-- from layer 1 on every vector has 64 entries
+pub vector-long : (n cap : ℕ) (cs frame s : List ℕ) → 1 ≤ n → (j : ℕ) → j < 2 ^ n → length (getD (vectors n cap cs frame s n) j []) ≡ 64
+vector-long zero cap cs frame s l = absurd (omega arith)
+vector-long (suc d) cap cs frame s l =
+    each-vector (suc d) cap cs frame s d 0 (add-one d) (λ j v. length v ≡ 64) (λ t lt. check-long _ _ _) (λ t lt. variable-long _ _ _ _ _)

@@ -1,0 +1,87 @@
+-- The decoder in document 01's own indices: layers 1 to n, kernels t, places θ and φ.
+use Prim.Native.Nat.{ℕ, zero, suc, _+_, _*_, _/_, _%_, _-_, _^_}
+use mathlib.Core.List.{List, []}
+use lib.ListN.{getD, set, replicate}
+use Rattle.vector.specs.Vector.{tabulate, vectorAt, joined, sumTo}
+use Rattle.polar.specs.Code.{kindOf}
+use Rattle.polar.specs.Transform.{theta, phi, coefficient, atLayer, layers}
+use Rattle.scms.specs.Nodes.{Lowered, checkNode, variableNode, lowered, clippedEntries}
+use Rattle.scms.specs.Decision.{decision}
+
+-- the cap of a precision Qm
+unfoldable pub capOf : ℕ → ℕ
+capOf qm = 2 ^ qm - 1
+
+-- the nodes of layer l on the vectors of all places: each kernel's check node at θ and its variable node at φ, with u at θ decided
+unfoldable pub nodes : (n l cap : ℕ) (cs u : List ℕ) → List (List ℕ) → List (List ℕ)
+nodes n l cap cs u vs =
+    atLayer [] n l
+    (λ t v w. checkNode (coefficient n l t cs) v w)
+    (λ t v w. variableNode cap (coefficient n l t cs) (getD u (theta n l t) 0) v w) vs
+
+-- u at layer l, for each place: the symbols decided, s, after the kernels of the later layers, n down to l + 1
+unfoldable pub decidedAt : (n : ℕ) (cs s : List ℕ) → ℕ → List ℕ
+decidedAt n cs s l = layers n (n - l) cs s
+
+-- A code, a frame and a cap, and a word s with the symbols decided so far. What s holds at a place not yet decided reaches only vectors of
+-- later places (specs/Claims, OnlyEarlier), so it does not matter.
+module _ (n cap : ℕ) (cs frame s : List ℕ) where
+  -- the vectors of layer l, one for each place; those of layer 0 are the frame's
+  unfoldable pub vectors : ℕ → List (List ℕ)
+  vectors zero = tabulate (2 ^ n) (vectorAt frame)
+  vectors (suc d) = nodes n (suc d) cap cs (decidedAt n cs s (suc d)) (vectors d)
+
+  -- θ's vector that the nodes of kernel t of layer l are given: of layer l − 1
+  unfoldable pub thetaVector : (l t : ℕ) → List ℕ
+  thetaVector l t = getD (vectors (l - 1)) (theta n l t) []
+
+  -- φ's vector
+  unfoldable pub phiVector : (l t : ℕ) → List ℕ
+  phiVector l t = getD (vectors (l - 1)) (phi n l t) []
+
+  -- the variable node of kernel t of layer l before the cap, and what it took off
+  unfoldable pub loweredAt : (l t : ℕ) → Lowered
+  loweredAt l t = lowered (coefficient n l t cs) (getD (decidedAt n cs s l) (theta n l t) 0) (thetaVector l t) (phiVector l t)
+
+  -- the 64 penalties held at place i: its vector of layer n
+  unfoldable pub heldAt : ℕ → List ℕ
+  heldAt i = getD (vectors n) i []
+
+  -- the count of clipped entries of the variable node of kernel t of layer l
+  unfoldable pub clippedAt : (l t : ℕ) → ℕ
+  clippedAt l t = clippedEntries cap (coefficient n l t cs) (getD (decidedAt n cs s l) (theta n l t) 0) (thetaVector l t) (phiVector l t)
+
+  -- the count of clipped entries over all variable nodes: layers 1 to n, kernels 0 to N/2 − 1
+  unfoldable pub clipCount : ℕ
+  clipCount = sumTo n (λ d. sumTo (2 ^ n / 2) (clippedAt (suc d)))
+
+  -- what the nodes of layer l took off on the line of place i. Layer l halves the block of 2 × 2^(n−l) places in which i lies: in its second
+  -- half, where i / 2^(n−l) is odd, all 2^(n−l) kernels of the block count; in its first half, which check nodes feed, none
+  unfoldable pub takenIn : (l i : ℕ) → ℕ
+  takenIn l i = i / 2 ^ (n - l) % 2 * sumTo (2 ^ (n - l)) (λ k. loweredAt l (i / (2 * 2 ^ (n - l)) * 2 ^ (n - l) + k) .taken)
+
+  -- what was taken off along the line of place i, from layer 1 to layer n
+  unfoldable pub takenOff : ℕ → ℕ
+  takenOff i = sumTo n (λ d. takenIn (suc d) i)
+
+module _ (n cap : ℕ) (cs map frame : List ℕ) where
+  -- the symbols of the first i places, decided in rising order, and 0 at the places after them
+  unfoldable pub decidedTo : ℕ → List ℕ
+  decidedTo zero = replicate (2 ^ n) 0
+  decidedTo (suc i) = let s = decidedTo i in set s i (decision (kindOf (getD map i 0)) (heldAt n cap cs frame s i))
+
+  -- the 64 penalties held for place i when it is decided
+  unfoldable pub held : ℕ → List ℕ
+  held i = heldAt n cap cs frame (decidedTo i) i
+
+  -- the answer: the N symbols
+  unfoldable pub symbols : List ℕ
+  symbols = decidedTo (2 ^ n)
+
+  -- the report: for each place, the 64 penalties held when it was decided
+  unfoldable pub report : List ℕ
+  report = joined (2 ^ n) held
+
+  -- the count of clipped entries over all variable nodes
+  unfoldable pub count : ℕ
+  count = clipCount n cap cs frame symbols

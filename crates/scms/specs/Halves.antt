@@ -1,0 +1,78 @@
+-- The decoder by halves: a block of 2^m places is decoded by decoding its first half from check nodes, and then its second half from
+-- variable nodes. A proof device, and the way that the code goes; proofs/ByHalves shows that it gives what specs/Decoder says.
+use Prim.Native.Nat.{ℕ, zero, suc, _+_, _/_, _^_, _<_}
+use mathlib.Core.Path.{_≡_}
+use mathlib.Core.List.{List, []}
+use lib.ListN.{getD}
+use Rattle.vector.specs.Vector.{tabulate, vectorAt, joined}
+use Rattle.polar.specs.Code.{kindOf}
+use Rattle.polar.specs.Tree.{Tree, map1, map3, map4, treeSum, treeOf, leaves}
+use Rattle.polar.specs.Transform.{transform}
+use Rattle.polar.specs.Halves.{Coefs, join, coefsAt}
+use Rattle.scms.specs.Nodes.{checkNode, variableNode, lowered, clippedEntries}
+use Rattle.scms.specs.Decision.{decision}
+use Rattle.scms.specs.Decoder.{takenOff, held, symbols, report, count}
+
+-- the vectors of 2^m places
+abbrev pub Vectors : ℕ → Type 0
+Vectors m = Tree (List ℕ) m
+
+-- what decoding a block answers: the symbols decided, their transform, the vectors held, what was taken off along each place's line inside
+-- the block, and the count of clipped entries
+pub record Answer (m : ℕ) : Type 0 where
+  pub symbols : Tree ℕ m
+  pub word : Tree ℕ m
+  pub held : Vectors m
+  pub taken : Tree ℕ m
+  pub count : ℕ
+
+-- the check nodes that join two halves
+unfoldable pub checkNodes : (m : ℕ) → Tree ℕ m → Vectors m → Vectors m → Vectors m
+checkNodes m h f g = map3 m checkNode h f g
+
+-- the variable nodes, with the first half's word u decided
+unfoldable pub variableNodes : (m cap : ℕ) → Tree ℕ m → Vectors m → Vectors m → Tree ℕ m → Vectors m
+variableNodes m cap h f g u = map4 m (λ k v w s. variableNode cap k s v w) h f g u
+
+-- their count of clipped entries
+unfoldable pub clippedNodes : (m cap : ℕ) → Tree ℕ m → Vectors m → Vectors m → Tree ℕ m → ℕ
+clippedNodes m cap h f g u = treeSum m (map4 m (λ k v w s. clippedEntries cap k s v w) h f g u)
+
+-- what they took off, all kernels counted
+unfoldable pub takenNodes : (m : ℕ) → Tree ℕ m → Vectors m → Vectors m → Tree ℕ m → ℕ
+takenNodes m h f g u = treeSum m (map4 m (λ k v w s. lowered k s v w .taken) h f g u)
+
+-- the decoder of a block: its coefficients, its map bytes and its vectors
+unfoldable pub decodeTree : (m cap : ℕ) → Coefs m → Tree ℕ m → Vectors m → Answer m
+decodeTree zero cap k map f =
+    let s = decision (kindOf map) f in
+    record { symbols = s; word = s; held = f; taken = 0; count = 0 }
+decodeTree (suc m) cap k map f =
+    let a = decodeTree m cap (k .1) (map .0) (checkNodes m (k .0) (f .0) (f .1)) in
+    let b = decodeTree m cap (k .2) (map .1) (variableNodes m cap (k .0) (f .0) (f .1) (a .word)) in
+    record {
+      symbols = (a .symbols, b .symbols);
+      word = join m (k .0) (a .word) (b .word);
+      held = (a .held, b .held);
+      taken = (a .taken, map1 m (λ x. x + takenNodes m (k .0) (f .0) (f .1) (a .word)) (b .taken));
+      count = a .count + clippedNodes m cap (k .0) (f .0) (f .1) (a .word) + b .count;
+    }
+
+-- the vectors of a frame
+unfoldable pub frameTree : (m : ℕ) → List ℕ → Vectors m
+frameTree m frame = treeOf [] m (tabulate (2 ^ m) (vectorAt frame))
+
+-- the whole word, decoded by halves
+unfoldable pub decodeHalves : (n cap : ℕ) (cs map frame : List ℕ) → Answer n
+decodeHalves n cap cs map frame = decodeTree n cap (coefsAt n 0 (2 ^ n / 2) cs) (treeOf 0 n map) (frameTree n frame)
+
+-- the two forms of the decoder say the same: symbols, vectors held, what was taken off, count; and the word by halves is the decoded word,
+-- the transform (by layers) of the symbols answered
+pub record SameAnswer (n cap : ℕ) (cs map frame : List ℕ) : Type 0 where
+  pub same-symbols : leaves n (decodeHalves n cap cs map frame .symbols) ≡ symbols n cap cs map frame
+  pub same-held : (i : ℕ) → i < 2 ^ n → getD (leaves n (decodeHalves n cap cs map frame .held)) i [] ≡ held n cap cs map frame i
+  pub same-report : joined (2 ^ n) (λ i. getD (leaves n (decodeHalves n cap cs map frame .held)) i []) ≡ report n cap cs map frame
+  pub same-taken : (i : ℕ) → i < 2 ^ n
+      → getD (leaves n (decodeHalves n cap cs map frame .taken)) i 0 ≡ takenOff n cap cs frame (symbols n cap cs map frame) i
+  pub same-count : decodeHalves n cap cs map frame .count ≡ count n cap cs map frame
+  pub same-word : leaves n (decodeHalves n cap cs map frame .word) ≡ transform n cs (symbols n cap cs map frame)

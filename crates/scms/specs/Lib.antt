@@ -1,0 +1,6 @@
+pub mod Nodes
+pub mod Decision
+pub mod Decoder
+pub mod Totals
+pub mod Claims
+pub mod Halves

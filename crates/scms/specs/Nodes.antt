@@ -1,0 +1,53 @@
+-- The two kinds of nodes. A node of a kernel makes one vector of 64 penalties from two: θ's and φ's of the layer next to the channel.
+use Prim.Native.Nat.{ℕ, _+_, min}
+use mathlib.Core.Bool.{cond}
+use mathlib.Core.List.{List}
+use lib.Dec.{ltb}
+use lib.ListN.{getD}
+use Rattle.vector.specs.Vector.{tabulate, sumTo, leastTo, least, lessLeast}
+use Rattle.gf64.specs.Field.{_⊕_, _⊙_}
+
+-- φ's vector in the order of c: φ's penalty at h ⊙ c, for each c
+unfoldable pub scaled : (h : ℕ) → List ℕ → List ℕ
+scaled h phi = tabulate 64 (λ c. getD phi (h ⊙ c) 0)
+
+-- a check node: value b gets the least, over all c, of θ's penalty at b ⊕ c plus φ's at h ⊙ c
+unfoldable pub checkNode : (h : ℕ) (theta phi : List ℕ) → List ℕ
+checkNode h theta phi =
+    let w = scaled h phi in
+    tabulate 64 (λ b. leastTo 63 (λ c. getD theta (b ⊕ c) 0 + getD w c 0))
+
+-- the sums of a variable node, θ's symbol being u: c gets θ's penalty at u ⊕ c plus φ's at h ⊙ c
+unfoldable pub sums : (h u : ℕ) (theta phi : List ℕ) → List ℕ
+sums h u theta phi =
+    let w = scaled h phi in
+    tabulate 64 (λ c. getD theta (u ⊕ c) 0 + getD w c 0)
+
+-- a vector less its least entry, and what was taken off
+pub record Lowered : Type 0 where
+  pub left : List ℕ
+  pub taken : ℕ
+
+-- the step that subtracts the least of the 64
+unfoldable pub subtractLeast : List ℕ → Lowered
+subtractLeast v = record { left = lessLeast v; taken = least v }
+
+-- what exceeds the cap, clipped to it
+unfoldable pub clipped : (cap : ℕ) → List ℕ → List ℕ
+clipped cap v = tabulate 64 (λ c. min cap (getD v c 0))
+
+-- how many of the 64 entries exceed the cap
+unfoldable pub exceeding : (cap : ℕ) → List ℕ → ℕ
+exceeding cap v = sumTo 64 (λ c. cond (ltb cap (getD v c 0)) 1 0)
+
+-- a variable node before the cap: its sums, the least of the 64 subtracted
+unfoldable pub lowered : (h u : ℕ) (theta phi : List ℕ) → Lowered
+lowered h u theta phi = subtractLeast (sums h u theta phi)
+
+-- a variable node: the least is subtracted, and then what exceeds the cap is clipped to it
+unfoldable pub variableNode : (cap h u : ℕ) (theta phi : List ℕ) → List ℕ
+variableNode cap h u theta phi = clipped cap (lowered h u theta phi .left)
+
+-- its count of clipped entries
+unfoldable pub clippedEntries : (cap h u : ℕ) (theta phi : List ℕ) → ℕ
+clippedEntries cap h u theta phi = exceeding cap (lowered h u theta phi .left)
