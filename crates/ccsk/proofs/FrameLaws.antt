@@ -7,7 +7,7 @@ use native.Mathlib.Omega.{arith}
 use lib.IntN.{ℤ}
 use lib.ListN.{length, getD, take, drop, length-append, length-drop}
 use lib.Seq.{take-all, take-at, length-take-le, take-append-add, getD-take, getD-drop}
-use Rattle.vector.specs.Vector.{vectorAt, joined}
+use Rattle.vector.specs.Vector.{vectorAt, joined, HasZero}
 use Rattle.vector.proofs.Laws.{length-joined, joined-part}
 use Rattle.ccsk.specs.Samples.{llrs}
 use Rattle.ccsk.specs.Demap.{frameOf, IsFrame}
@@ -148,5 +148,5 @@ module _ (base top bottom qc : ℕ) (samples : List ℤ) where
         let long = length-frame in
         let in-frame : i < length samples / 64 = omega arith in
         let z = llr-zero base top bottom qc (vectorAt samples i) in
-        (z .0, z .1, frame-entry i (z .0) in-frame (z .1) ∙ z .2);
+        subst HasZero (sym (frame-part i in-frame)) (record { zero-at = z .0; within = z .1; is-zero = z .2 });
   }

@@ -9,7 +9,7 @@ use lib.ListN.{length, getD}
 use Rattle.refusal.specs.Table.{Row, refusalOf}
 use Rattle.refusal.specs.Tests.{outside, unequal, Within}
 use Rattle.refusal.specs.Rows.{lengthRow}
-use Rattle.vector.specs.Vector.{vectorAt, joined}
+use Rattle.vector.specs.Vector.{vectorAt, joined, HasZero}
 use Rattle.ccsk.specs.Chips.{turned, countRow, baseRow}
 use Rattle.ccsk.specs.Samples.{llrs}
 
@@ -68,4 +68,4 @@ pub record Demapped (base top bottom qc : ℕ) (samples : List ℤ) (buffer afte
 -- a frame of penalties at this Qc: no entry above 2^Qc − 1, and a 0 in every 64
 pub record IsFrame (qc : ℕ) (frame : List ℕ) : Type 0 where
   pub small : (j : ℕ) → j < length frame → getD frame j 0 ≤ 2 ^ qc - 1
-  pub zeros : (place : ℕ) → place < length frame / 64 → (v : ℕ) × (v < 64) × (getD frame (64 * place + v) 0 ≡ 0)
+  pub zeros : (place : ℕ) → place < length frame / 64 → HasZero (vectorAt frame place)

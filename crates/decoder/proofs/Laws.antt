@@ -8,16 +8,12 @@ use Rattle.vector.proofs.Laws.{length-tabulate, getD-tabulate}
 use Rattle.gf64.specs.Field.{_⊕_, _⊙_}
 use Rattle.gf64.proofs.SumLaws.{sum-lt}
 use Rattle.gf64.proofs.ProductLaws.{product-lt}
-use Rattle.scms.specs.Nodes.{scaled}
+use Rattle.scms.specs.Nodes.{scaled, sumAt}
 use Rattle.scms.specs.Decision.{smallestTo}
 use Rattle.scms.proofs.DecisionLaws.{smallest-takes, smallest-keeps}
 use Rattle.decoder.specs.Parts.{Small}
 
--- the sum at c of a node: theta's entry at b ⊕ c and w's at c
-abbrev pub sumAt : (theta w : List ℕ) → (b c : ℕ) → ℕ
-sumAt theta w b c = getD theta (b ⊕ c) 0 + getD w c 0
-
--- it fits in 16 bits
+-- a node's sum fits in 16 bits
 pub sum-small : (theta w : List ℕ) (b c : ℕ) → Small theta → Small w → b < 64 → c < 64 → sumAt theta w b c ≤ 16382
 sum-small theta w b c st sw lb lc = omega (arith, st .most (b ⊕ c) (sum-lt b c lb lc), sw .most c lc)
 

@@ -1,9 +1,9 @@
-// The decision at one place, from the 64 llrs held for it.
+// The decision at one place, from the 64 penalties held for it.
 ghost use mathlib.Core.Path.{_≡_};
 ghost use Rattle.polar.specs.Code.{kindOf};
 ghost use Rattle.scms.specs.Decision.{smallest, decision};
 
-// The smallest value whose llr is least.
+// The smallest value whose penalty is least.
 fn smallest(v: &[u16; 64]) -> u8
     ensures { λ r. ⌜ r ≡ smallest (now (v .entry)) ⌝ }
 {
@@ -18,7 +18,7 @@ fn smallest(v: &[u16; 64]) -> u8
     b as u8
 }
 
-// The symbol of a place with this map byte: byte 0 is a message place, which takes the smallest value whose llr is least; any other
+// The symbol of a place with this map byte: byte 0 is a message place, which takes the smallest value whose penalty is least; any other
 // byte is a frozen place, which holds 0.
 pub(crate) fn decide(byte: u8, v: [u16; 64]) -> u8
     ensures { λ r. ⌜ r ≡ decision (kindOf byte) v ⌝ }

@@ -1,15 +1,14 @@
-// The two kinds of nodes. A node of a kernel makes one vector of 64 llrs from two: theta's and phi's of the layer next to the channel.
+// The two kinds of nodes. A node of a kernel makes one vector of 64 penalties from two: theta's and phi's of the layer before its own, on the
+// side of the channel.
 ghost use mathlib.Core.Path.{_≡_};
 ghost use mathlib.Core.Bool.{cond};
-ghost use Prim.Native.Nat.{_+_, _<_, _≤_, min};
+ghost use Prim.Native.Nat.{_<_, _≤_, min};
 ghost use lib.Dec.{ltb};
-ghost use lib.ListN.{getD};
 ghost use Rattle.vector.specs.Vector.{leastTo};
-ghost use Rattle.gf64.specs.Field.{_⊕_};
-ghost use Rattle.scms.specs.Nodes.{scaled, checkNode, sums, clipped, exceeding};
+ghost use Rattle.scms.specs.Nodes.{scaled, sumAt, checkNode, sums, clipped, exceeding};
 ghost use Rattle.decoder.specs.Parts.{Small, IsVariableNode};
 
-// Phi's vector in the order of c: its llr at h times c, for each c. Made once a node, so that each product is taken once.
+// Phi's vector in the order of c: its penalty at h times c, for each c. Made once for each node, so that each product is taken once.
 fn scaled(phi: &[u16; 64], h: u8) -> [u16; 64]
     ensures { λ r. ⌜ r ≡ scaled h (now (phi .entry)) ⌝ }
 {
@@ -23,11 +22,11 @@ fn scaled(phi: &[u16; 64], h: u8) -> [u16; 64]
     r
 }
 
-// Entry b of a check node: the least, over all c, of theta's llr at b + c (the field's sum, exclusive or) plus w's at c, w being phi's
+// Entry b of a check node: the least, over all c, of theta's penalty at b + c (the field's sum, exclusive or) plus w's at c, w being phi's
 // vector in the order of c.
 fn check_entry(theta: &[u16; 64], w: &[u16; 64], b: usize) -> u16
     requires { ⌜ (b < 64) × Small (now theta) × Small (now w) ⌝ }
-    ensures { λ r. ⌜ r ≡ leastTo 63 (λ c. getD (now (theta .entry)) (b ⊕ c) 0 + getD (now (w .entry)) c 0) ⌝ }
+    ensures { λ r. ⌜ r ≡ leastTo 63 (sumAt (now (theta .entry)) (now (w .entry)) b) ⌝ }
 {
     let mut m = theta[b] + w[0];
     let mut c: usize = 1;
@@ -56,7 +55,7 @@ pub(crate) fn check_node(theta: [u16; 64], phi: [u16; 64], h: u8) -> [u16; 64]
     r
 }
 
-// The sums of a variable node, theta's symbol being u: for each c, theta's llr at u + c (the field's sum) plus phi's at h times c.
+// The sums of a variable node, theta's symbol being u: for each c, theta's penalty at u + c (the field's sum) plus phi's at h times c.
 fn sums(theta: &[u16; 64], phi: &[u16; 64], h: u8, u: u8) -> [u16; 64]
     requires { ⌜ (u < 64) × Small (now theta) × Small (now phi) ⌝ }
     ensures { λ r. ⌜ r ≡ sums h u (now (theta .entry)) (now (phi .entry)) ⌝ }
@@ -72,27 +71,27 @@ fn sums(theta: &[u16; 64], phi: &[u16; 64], h: u8, u: u8) -> [u16; 64]
     r
 }
 
-// An llr, clipped to the cap where it exceeds the cap.
+// A penalty, clipped to the cap where it exceeds the cap.
 fn clip(cap: u16, x: u16) -> u16
     ensures { λ r. ⌜ r ≡ min cap x ⌝ }
 {
     if cap < x { cap } else { x }
 }
 
-// 1 for an llr that exceeds the cap, else 0.
+// 1 for a penalty that exceeds the cap, else 0.
 fn exceeds(cap: u16, x: u16) -> u32
     ensures { λ r. ⌜ (r ≡ cond (ltb cap x) 1 0) × (r ≤ 1) ⌝ }
 {
     if cap < x { 1 } else { 0 }
 }
 
-// 64 llrs after the clip, and how many exceeded the cap before it.
+// 64 penalties after the clip, and how many exceeded the cap before it.
 pub(crate) struct Clipped {
     pub(crate) llrs: [u16; 64],
     pub(crate) count: u32,
 }
 
-// Clips each of 64 llrs to the cap, and counts those that exceed it.
+// Clips each of 64 penalties to the cap, and counts those that exceed it.
 fn clip_llrs(cap: u16, v: &[u16; 64]) -> Clipped
     ensures { λ r. ⌜ (r .llrs ≡ clipped cap (now (v .entry))) × (r .count ≡ exceeding cap (now (v .entry))) × (r .count ≤ 64) ⌝ }
 {

@@ -16,7 +16,7 @@ use Rattle.ccsk.specs.Demap.{frameOf, demapRefusal}
 use Rattle.ccsk.specs.Noiseless.{sentSample, sentSymbol, sentLlr, Premise}
 use Rattle.scms.specs.Nodes.{scaled, checkNode, sums, subtractLeast, clipped, exceeding, lowered, variableNode, clippedEntries}
 use Rattle.scms.specs.Decision.{smallestTo, smallest, decision}
-use Rattle.scms.specs.Decoder.{capOf, nodes, decidedAt, vectors, thetaVector, phiVector, loweredAt, clippedAt, clipCount, heldAt, decidedTo, held, symbols, report, count}
+use Rattle.scms.specs.Decoder.{capOf, nodes, thetaSymbol, vectors, thetaVector, phiVector, loweredAt, clippedAt, clipCount, heldAt, decidedTo, held, symbols, report, count}
 use Rattle.link.specs.Rows.{Worked}
 
 -- with gain 1/40 the penalty of symbol 1 is 0, where symbol 0 is sent
@@ -26,5 +26,5 @@ fails p = let l : _≤_ 1 0 = p 1 (lit< tt) (λ e. absurd (omega arith)) in omeg
 
 -- every row holds
 pub worked : Worked
-unfolding _⊕_ _⊙_ timesA productBits lowSix theta phi coefficient atKernel atKernels atLayer layer layers transform refusalOf outside anyOutside unequal tabulate joined sumTo leastTo least lessLeast chip symbolChip turned spreadRefusal hardChip magnitude added raw rawLlrs quantised quantisedLlrs llrs vectorAt frameOf demapRefusal sentSample sentSymbol kindOf scaled checkNode sums subtractLeast clipped exceeding lowered variableNode clippedEntries smallestTo smallest decision capOf nodes decidedAt vectors thetaVector phiVector loweredAt clippedAt clipCount heldAt decidedTo held symbols report count
+unfolding _⊕_ _⊙_ timesA productBits lowSix theta phi coefficient atKernel atKernels atLayer layer layers transform refusalOf outside anyOutside unequal tabulate joined sumTo leastTo least lessLeast chip symbolChip turned spreadRefusal hardChip magnitude added raw rawLlrs quantised quantisedLlrs llrs vectorAt frameOf demapRefusal sentSample sentSymbol kindOf scaled checkNode sums subtractLeast clipped exceeding lowered variableNode clippedEntries smallestTo smallest decision capOf nodes thetaSymbol vectors thetaVector phiVector loweredAt clippedAt clipCount heldAt decidedTo held symbols report count
 worked = record { rows-hold = refl; samples-sent = refl; premise-fails = fails }

@@ -56,8 +56,8 @@ gainRows =
     ∷ []
 
 -- a vector that is 0 at s and has this penalty at every other value
-abbrev pub zeroAt : (s penalty : ℕ) → List ℕ
-zeroAt s penalty = set (replicate 64 penalty) s 0
+abbrev pub zeroAt : (s llr : ℕ) → List ℕ
+zeroAt s llr = set (replicate 64 llr) s 0
 
 -- the penalty held for the symbol that place i gets
 abbrev pub heldFor : (n cap : ℕ) (cs map frame : List ℕ) → ℕ → ℕ

@@ -1,11 +1,12 @@
 -- What one layer does to a word, kernel by kernel: no kernel touches another's places.
 use mathlib.Core.Path.{_≡_, refl, sym, ap₂, _∙_, subst}
 use mathlib.Core.Logic.{_⊎_, inl, inr, ⊎-elim}
-use mathlib.Core.List.{List}
+use mathlib.Core.List.{List, [], _∷_}
 use Prim.Native.Nat.{ℕ, zero, suc, _+_, _/_, _-_, _^_, _≤_, _<_}
 use native.Mathlib.Omega.{arith}
 use native.Mathlib.Nat.{le-refl}
-use lib.ListN.{length, getD, set, length-set}
+use lib.Dec.{lit<}
+use lib.ListN.{length, getD, set, length-set, List·getD-eq-default}
 use Rattle.gf64.specs.Field.{_⊕_, _⊙_}
 use Rattle.gf64.proofs.SumLaws.{sum-lt}
 use Rattle.gf64.proofs.ProductLaws.{product-lt}
@@ -146,21 +147,47 @@ layer-turned n d m e cs x long t l =
     let v = layer-made 0 n d m e (λ t p r. p ⊕ r) (λ t p r. coefficient n (suc d) t cs ⊙ r) x long t l in
     record { sum = v .at-theta; scaled = v .at-phi }
 
--- the words between the layers are words
-pub layers-word : (n k : ℕ) (cs u : List ℕ) → k ≤ n → IsWord n u → IsWord n (layers n k cs u)
-unfolding layers layer
-layers-word n zero cs u l w = w
-layers-word n (suc k) cs u l w = go (n - suc k) (omega arith) (layers-word n k cs u (omega arith) w)
+-- every entry of a list is a symbol, and so is the 0 past its end
+abbrev Symbols : List ℕ → Type 0
+Symbols x = (j : ℕ) → getD x j 0 < 64
+
+-- a symbol stored
+set-symbols : (x : List ℕ) (i s : ℕ) → Symbols x → s < 64 → Symbols (set x i s)
+set-symbols [] i s h l j = h j
+set-symbols (y ∷ x) zero s h l zero = l
+set-symbols (y ∷ x) zero s h l (suc j) = h (suc j)
+set-symbols (y ∷ x) (suc i) s h l zero = h zero
+set-symbols (y ∷ x) (suc i) s h l (suc j) = set-symbols x i s (λ k. h (suc k)) l j
+
+-- kernels make symbols of symbols
+kernels-symbols : (n l k : ℕ) (cs x : List ℕ) → Symbols x → Symbols (atKernels 0 n l k (λ t p r. p ⊕ r) (λ t p r. coefficient n l t cs ⊙ r) x)
+unfolding atKernels atKernel
+kernels-symbols n l zero cs x h = h
+kernels-symbols n l (suc t) cs x h =
+    let y = atKernels 0 n l t (λ t p r. p ⊕ r) (λ t p r. coefficient n l t cs ⊙ r) x in
+    let i = kernels-symbols n l t cs x h in
+    let p = getD y (theta n l t) 0 in
+    let r = getD y (phi n l t) 0 in
+    set-symbols (set y (theta n l t) (p ⊕ r)) (phi n l t) (coefficient n l t cs ⊙ r)
+    (set-symbols y (theta n l t) (p ⊕ r) i (sum-lt p r (i (theta n l t)) (i (phi n l t)))) (product-lt (coefficient n l t cs) r)
+
+-- so do layers
+layers-symbols : (n k : ℕ) (cs u : List ℕ) → Symbols u → Symbols (layers n k cs u)
+unfolding layers layer atLayer
+layers-symbols n zero cs u h = h
+layers-symbols n (suc k) cs u h = kernels-symbols n (n - k) (2 ^ n / 2) cs (layers n k cs u) (layers-symbols n k cs u h)
+
+-- a word has symbols only
+word-symbols : (n : ℕ) (u : List ℕ) → IsWord n u → Symbols u
+word-symbols n u w j = go (lt-or-le j (2 ^ n))
   where
-    go : (d : ℕ) → d + suc k ≡ n → IsWord n (layers n k cs u) → IsWord n (layer n (n - k) cs (layers n k cs u))
-    go d e v =
-        let x = layers n k cs u in
-        let q : n - k ≡ suc d = omega arith in
-        subst (λ (i : ℕ). IsWord n (layer n i cs x)) (sym q) (record {
-          long = layer-long n (suc d) cs x ∙ v .long;
-          symbols = each-place 0 n d k e (λ t p r. p ⊕ r) (λ t p r. coefficient n (suc d) t cs ⊙ r) x (v .long) (λ j y. y < 64)
-              (λ t lt. sum-lt (getD x (theta n (suc d) t) 0) (getD x (phi n (suc d) t) 0)
-              (v .symbols (theta n (suc d) t) (theta-lt n d k e t lt))
-              (v .symbols (phi n (suc d) t) (phi-lt n d k e t lt)))
-              (λ t lt. product-lt (coefficient n (suc d) t cs) (getD x (phi n (suc d) t) 0));
-        })
+    go : (j < 2 ^ n) ⊎ (2 ^ n ≤ j) → getD u j 0 < 64
+    go (inl l) = w .symbols j l
+    go (inr l) = subst (λ (x : ℕ). x < 64) (sym (List·getD-eq-default u 0 (let e = w .long in omega arith))) (lit< tt)
+
+-- the words between the layers are words
+pub layers-word : (n k : ℕ) (cs u : List ℕ) → IsWord n u → IsWord n (layers n k cs u)
+layers-word n k cs u w = record {
+  long = layers-long n k cs u ∙ w .long;
+  symbols = λ j l. layers-symbols n k cs u (word-symbols n u w) j;
+}

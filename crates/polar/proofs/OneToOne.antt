@@ -16,6 +16,7 @@ use Rattle.polar.specs.Tree.{Tree, map2, All, leaves, treeOf, at}
 use Rattle.polar.specs.Halves.{Coefs, join, transformTree, coefsAt, blockTransform}
 use Rattle.polar.proofs.Numbers.{lt-or-le}
 use Rattle.polar.proofs.TreeLaws.{map2-at, ext-at, all-by, all-at, length-leaves, treeOf-leaves, leaves-treeOf, all-treeOf, all-leaves}
+use Rattle.polar.proofs.LayerLaws.{layers-word}
 use Rattle.polar.proofs.ByHalves.{by-halves}
 
 -- a symbol, as a property of a place
@@ -157,12 +158,8 @@ module _ (n : ℕ) (cs : List ℕ) where
 
   -- a word becomes a word
   pub transform-word : (u : List ℕ) → IsWord n u → IsWord n (transform n cs u)
-  unfolding blockTransform
-  transform-word u w = record {
-    long = ap length (by-halves n cs u (w .long)) ∙ length-leaves ℕ n (transformTree n h (treeOf 0 n u));
-    symbols = λ i l. subst (λ (x : List ℕ). getD x i 0 < 64) (sym (by-halves n cs u (w .long)))
-        (all-leaves 0 Symbol n (transformTree n h (treeOf 0 n u)) (transform-symbols n h (treeOf 0 n u) (word-tree u w)) i l);
-  }
+  unfolding transform
+  transform-word u w = layers-word n n cs u w
 
   module _ (g : Coefficients cs) where
     -- no two words become the same

@@ -19,10 +19,10 @@ use Rattle.scms.specs.Claims.{BestWord}
 use Rattle.scms.specs.Halves.{Vectors, checkNodes, variableNodes, clippedNodes, decodeTree, frameTree, decodeHalves}
 use Rattle.scms.proofs.DecisionLaws.{smallest-least, decision-lt, decision-frozen, decision-message, KindCases, kind-cases}
 use Rattle.scms.proofs.AnswerLaws.{symbols-word, symbol-decided}
-use Rattle.scms.proofs.Unclipped.{unclipped-count}
+use Rattle.scms.proofs.Unclipped.{count-zero}
 use Rattle.scms.proofs.ByHalves.{same-answer}
 use Rattle.scms.proofs.TreeDecoder.{decoded-symbols, word-transform}
-use Rattle.scms.proofs.TreeTotals.{penalty, treeTotal, variable-total}
+use Rattle.scms.proofs.TreeTotals.{llrAt, treeTotal, variable-total}
 use Rattle.scms.proofs.Exact.{sentTotal, Words, least-check, least-variable}
 use Rattle.scms.proofs.TreeLists.{tree-word, sent-tree, sent-leaves}
 use Rattle.scms.proofs.FrozenPlaces.{IsFrozen, IsMessage, Holds, FirstFrozen, not-both, frozen-one, message-all, message-first, first-of}
@@ -78,21 +78,21 @@ module _ (m cap : ℕ) (k : Coefs (suc m)) (map : Tree ℕ (suc m)) (f : Vectors
       (least-same (λ u a. (a .0, (a .1, message-all m (map .1) (u .1) h))) (λ u a. (a .0, a .1 .0)) p)
 
 -- one place
-leaf-least : (byte : ℕ) (v : List ℕ) → Least (λ (u : ℕ). (u < 64) × Holds byte u) (penalty v) (penalty v (decision (kindOf byte) v))
+leaf-least : (byte : ℕ) (v : List ℕ) → Least (λ (u : ℕ). (u < 64) × Holds byte u) (llrAt v) (llrAt v (decision (kindOf byte) v))
 leaf-least byte v = go (kind-cases (kindOf byte))
   where
-    go : KindCases (kindOf byte) → Least (λ (u : ℕ). (u < 64) × Holds byte u) (penalty v) (penalty v (decision (kindOf byte) v))
+    go : KindCases (kindOf byte) → Least (λ (u : ℕ). (u < 64) × Holds byte u) (llrAt v) (llrAt v (decision (kindOf byte) v))
     go (inl e) = record {
       by = decision (kindOf byte) v;
       meets = (decision-lt byte v, λ f q. absurd (not-both (kindOf byte) f e q));
       gives = refl;
-      bound = λ a p. le-trans (le-of-eq (ap (penalty v) (decision-message (kindOf byte) v e))) (smallest-least v a (p .0));
+      bound = λ a p. le-trans (le-of-eq (ap (llrAt v) (decision-message (kindOf byte) v e))) (smallest-least v a (p .0));
     }
     go (inr e) = record {
       by = decision (kindOf byte) v;
       meets = (decision-lt byte v, λ f q. decision-frozen (kindOf byte) v f q);
       gives = refl;
-      bound = λ a p. le-of-eq (ap (penalty v) (decision-frozen (kindOf byte) v (e .0) (e .1) ∙ sym (p .1 (e .0) (e .1))));
+      bound = λ a p. le-of-eq (ap (llrAt v) (decision-frozen (kindOf byte) v (e .0) (e .1) ∙ sym (p .1 (e .0) (e .1))));
     }
 
 -- by halves
@@ -148,7 +148,7 @@ module _ (n cap : ℕ) (cs map frame : List ℕ) where
       let k = coefsAt n 0 (2 ^ n / 2) cs in
       let a = decodeHalves n cap cs map frame in
       let same = same-answer n cap cs map frame in
-      let none : a .count ≡ 0 = same .same-count ∙ unclipped-count n cap cs map frame un in
+      let none : a .count ≡ 0 = same .same-count ∙ count-zero n cap cs map frame .unclipped-zero un in
       let l = tree-best n cap k (treeOf 0 n map) (frameTree n frame) (coefs-nonzero n 0 (2 ^ n / 2) cs g) (first-of n map ff) none in
       let t : total n frame (transform n cs (symbols n cap cs map frame)) ≡ treeTotal n (frameTree n frame) (a .word)
       = ap (λ (x : List ℕ). total n frame (transform n cs x)) (sym (same .same-symbols)) ∙ sent-leaves n cs frame (a .symbols)

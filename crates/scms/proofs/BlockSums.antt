@@ -5,16 +5,16 @@ use Prim.Native.Nat.{ℕ, zero, suc, _+_, _*_, _/_, _%_, _-_, _^_, _≤_, _<_}
 use native.Mathlib.Nat.{add-zero, zero-mul, one-mul}
 use native.Mathlib.Omega.{arith}
 use lib.Arith.{digits-div}
-use lib.ListN.{getD, take, drop}
+use lib.ListN.{take, drop}
 use Rattle.vector.specs.Vector.{sumTo}
 use Rattle.vector.proofs.Laws.{sum-ext, sum-first, sum-split, sum-add}
-use Rattle.polar.specs.Transform.{theta, coefficient, layers}
+use Rattle.polar.specs.Transform.{coefficient, layers}
 use Rattle.polar.specs.Tree.{Tree, map3, map4, treeOf, Place, here, at, number}
 use Rattle.polar.proofs.Numbers.{two-pow, half-pow}
 use Rattle.polar.proofs.TreeLaws.{number-lt, map3-at, map4-at, ext-at}
 use Rattle.polar.proofs.Windows.{window, block-coefs}
 use Rattle.scms.specs.Nodes.{checkNode, variableNode, lowered, clippedEntries}
-use Rattle.scms.specs.Decoder.{decidedAt, vectors, thetaVector, phiVector, loweredAt, clippedAt, takenIn}
+use Rattle.scms.specs.Decoder.{thetaSymbol, vectors, thetaVector, phiVector, loweredAt, clippedAt, takenIn}
 use Rattle.scms.specs.Halves.{Vectors, checkNodes, variableNodes, clippedNodes, takenNodes}
 use Rattle.scms.proofs.TreeSums.{tree-sum}
 use Rattle.scms.proofs.Blocks.{theta-in-block, phi-in-block, u-in-block, check-of, variable-of}
@@ -71,7 +71,7 @@ module _ (n cap : ℕ) (cs frame r : List ℕ) where
             ap (λ (x : ℕ). sumTo x (λ k. clippedAt n cap cs frame r (suc (d + 0)) (o / 2 + k))) (half-pow m)
             ∙ ap₂ (λ (x y : ℕ). sumTo (2 ^ m) (λ k. clippedAt n cap cs frame r (suc x) (y + k))) (add-zero d) half
 
-        -- a layer below, on the two halves
+        -- a later layer, on the two halves
         two : (j : ℕ) → j < m → sumTo (2 ^ suc m / 2) (λ k. clippedAt n cap cs frame r (suc (d + suc j)) (o / 2 + k))
             ≡ sumTo (2 ^ m / 2) (λ k. clippedAt n cap cs frame r (suc (suc d + j)) (o / 2 + k))
             + sumTo (2 ^ m / 2) (λ k. clippedAt n cap cs frame r (suc (suc d + j)) ((o + 2 ^ m) / 2 + k))
@@ -150,7 +150,7 @@ module _ (n cap : ℕ) (cs frame r : List ℕ) where
 
       -- a kernel's coefficient, θ's symbol and its two vectors, as the trees have them
       same-kernel : {A : Type 0} (f : ℕ → ℕ → List ℕ → List ℕ → A) (p : Place m)
-          → f (coefficient n (suc d) (w * 2 ^ m + number p) cs) (getD (decidedAt n cs r (suc d)) (theta n (suc d) (w * 2 ^ m + number p)) 0)
+          → f (coefficient n (suc d) (w * 2 ^ m + number p) cs) (thetaSymbol n (suc d) (w * 2 ^ m + number p) cs r)
           (thetaVector n cap cs frame r (suc d) (w * 2 ^ m + number p)) (phiVector n cap cs frame r (suc d) (w * 2 ^ m + number p))
           ≡ f (at hs p) (at U p) (at F p) (at G p)
       same-kernel f p =
@@ -160,7 +160,7 @@ module _ (n cap : ℕ) (cs frame r : List ℕ) where
 
       -- the block's sums
       pub clipped-sum : clippedNodes m cap hs F G U ≡ sumTo (2 ^ m) clips
-      unfolding clippedNodes clippedAt
+      unfolding clippedNodes clippedEntries clippedAt loweredAt
       clipped-sum = tree-sum m (map4 m (λ k v w s. clippedEntries cap k s v w) hs F G U) clips
           (λ p. map4-at (λ k v w s. clippedEntries cap k s v w) p hs F G U ∙ sym (same-kernel (clippedEntries cap) p))
 

@@ -12,7 +12,7 @@ use Rattle.polar.proofs.TreeLaws.{number-lt}
 use Rattle.polar.proofs.Kernels.{theta-is, phi-is}
 use Rattle.polar.proofs.Windows.{window, window-at, first-made, second-made}
 use Rattle.scms.specs.Nodes.{checkNode, variableNode}
-use Rattle.scms.specs.Decoder.{nodes, decidedAt, vectors, thetaVector, phiVector}
+use Rattle.scms.specs.Decoder.{nodes, thetaSymbol, vectors, thetaVector, phiVector}
 use Rattle.scms.proofs.VectorLaws.{vectors-long, theta-from, phi-from}
 
 -- each of the 2^d blocks that layer d + 1 halves lies in the word
@@ -34,8 +34,8 @@ module _ (n d m w o : ℕ) (e : d + suc m ≡ n) (eo : o ≡ w * (2 ^ m + 2 ^ m)
   phi-at = phi-is n d m e w (number p) (number-lt p) ∙ ap (λ (x : ℕ). x + number p + 2 ^ m) (sym eo) ∙ omega arith
 
   -- u there is the symbol at that place after the later layers
-  pub u-in-block : (cs s : List ℕ) → getD (decidedAt n cs s (suc d)) (theta n (suc d) (w * 2 ^ m + number p)) 0 ≡ at (window 0 m o (layers n m cs s)) p
-  unfolding decidedAt
+  pub u-in-block : (cs s : List ℕ) → thetaSymbol n (suc d) (w * 2 ^ m + number p) cs s ≡ at (window 0 m o (layers n m cs s)) p
+  unfolding thetaSymbol
   u-in-block cs s =
       let k : n - suc d ≡ m = omega arith in
       ap₂ (λ (i j : ℕ). getD (layers n i cs s) j 0) k theta-at ∙ sym (window-at 0 p o (layers n m cs s))
@@ -65,7 +65,7 @@ module _ (n cap : ℕ) (cs frame s : List ℕ) (d m w o : ℕ) (e : d + suc m �
 
     -- and at φ
     abbrev gs : ℕ → List ℕ → List ℕ → List ℕ
-    gs i v y = variableNode cap (coefficient n (suc d) i cs) (getD (decidedAt n cs s (suc d)) (theta n (suc d) i) 0) v y
+    gs i v y = variableNode cap (coefficient n (suc d) i cs) (thetaSymbol n (suc d) i cs s) v y
 
     -- the block lies in the word
     fits-at : w * (2 ^ m + 2 ^ m) + (2 ^ m + 2 ^ m) ≤ 2 ^ n

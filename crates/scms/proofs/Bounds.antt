@@ -7,16 +7,16 @@ use native.Mathlib.Omega.{arith}
 use lib.Pow.{pow-mono}
 use lib.ListN.{getD}
 use Rattle.refusal.specs.Tests.{Within}
-use Rattle.vector.specs.Vector.{HasZero}
+use Rattle.vector.specs.Vector.{HasZero, AtMost}
 use Rattle.polar.specs.Code.{Coefficients, IsWord}
 use Rattle.polar.specs.Transform.{theta, phi, coefficient}
 use Rattle.polar.proofs.Kernels.{theta-lt, phi-lt}
 use Rattle.polar.proofs.Numbers.{two-pow}
 use Rattle.scms.specs.Nodes.{lowered}
-use Rattle.scms.specs.Decoder.{decidedAt, vectors, thetaVector, phiVector, loweredAt}
+use Rattle.scms.specs.Decoder.{thetaSymbol, vectors, thetaVector, phiVector, loweredAt}
 use Rattle.scms.specs.Totals.{EachZero, EachAtMost}
 use Rattle.scms.specs.Claims.{Fits}
-use Rattle.scms.proofs.NodeLaws.{AtMost, check-zero, variable-zero, check-most, left-most, variable-cap, variable-most}
+use Rattle.scms.proofs.NodeLaws.{check-zero, variable-zero, check-most, rest-most, variable-cap, variable-most}
 use Rattle.scms.proofs.VectorLaws.{coefficient-nonzero, frame-vector, theta-from, phi-from, each-vector, u-lt}
 
 module _ (n cap : ℕ) (cs frame s : List ℕ) (g : Coefficients cs) (z : EachZero n frame) where
@@ -41,7 +41,7 @@ module _ (n cap : ℕ) (cs frame s : List ℕ) (g : Coefficients cs) (z : EachZe
 
   -- where the frame's entries are at most the cap, so is every entry of every vector: a check node never needs a cap
   vector-cap : EachAtMost n cap frame → (d : ℕ) → d ≤ n → Each d (AtMost cap)
-  vector-cap mf zero l = λ j lj. subst (AtMost cap) (sym (frame-vector n cap cs frame s j lj)) (λ b lb. mf j b lj lb)
+  vector-cap mf zero l = λ j lj. subst (AtMost cap) (sym (frame-vector n cap cs frame s j lj)) (mf j lj)
   vector-cap mf (suc d) l = go (n - suc d) (omega arith) (vector-cap mf d (omega arith))
     where
       go : (m : ℕ) → d + suc m ≡ n → Each d (AtMost cap) → Each (suc d) (AtMost cap)
@@ -54,7 +54,7 @@ module _ (n cap : ℕ) (cs frame s : List ℕ) (g : Coefficients cs) (z : EachZe
   pub fits : EachAtMost n cap frame → Fits n cap cs frame s
   fits mf = record {
     zeros = λ l i k li. vector-zero l k i li;
-    capped = λ l i b k li lb. vector-cap mf l k i li b lb;
+    capped = λ l i k li. vector-cap mf l k i li;
     sums-fit = sums-fit-at mf;
   }
     where
@@ -72,19 +72,19 @@ module _ (n cap : ℕ) (cs frame s : List ℕ) (g : Coefficients cs) (z : EachZe
 
   module _ (most : ℕ) (w : IsWord n s) (mf : EachAtMost n most frame) where
     -- the variable nodes of layer d + 1 before the cap, where the vectors of layer d are at most 2^d times the frame's bound
-    left-bound : (d m : ℕ) → d + suc m ≡ n → Each d (AtMost (most * 2 ^ d)) → (t : ℕ) → t < 2 ^ n / 2
-        → AtMost (most * 2 ^ suc d) (lowered (coefficient n (suc d) t cs) (getD (decidedAt n cs s (suc d)) (theta n (suc d) t) 0)
-        (at-place d (theta n (suc d) t)) (at-place d (phi n (suc d) t)) .left)
-    left-bound d m e ih t lt =
+    rest-bound : (d m : ℕ) → d + suc m ≡ n → Each d (AtMost (most * 2 ^ d)) → (t : ℕ) → t < 2 ^ n / 2
+        → AtMost (most * 2 ^ suc d) (lowered (coefficient n (suc d) t cs) (thetaSymbol n (suc d) t cs s)
+        (at-place d (theta n (suc d) t)) (at-place d (phi n (suc d) t)) .rest)
+    rest-bound d m e ih t lt =
         let q : most * 2 ^ suc d ≡ most * 2 ^ d + most * 2 ^ d = ap (λ (x : ℕ). most * x) (two-pow d) ∙ mul-add most (2 ^ d) (2 ^ d) in
-        subst (λ (x : ℕ). AtMost x (lowered (coefficient n (suc d) t cs) (getD (decidedAt n cs s (suc d)) (theta n (suc d) t) 0)
-        (at-place d (theta n (suc d) t)) (at-place d (phi n (suc d) t)) .left)) (sym q)
-        (left-most _ _ _ _ _ (u-lt n cap cs frame s d m e w t lt)
+        subst (λ (x : ℕ). AtMost x (lowered (coefficient n (suc d) t cs) (thetaSymbol n (suc d) t cs s)
+        (at-place d (theta n (suc d) t)) (at-place d (phi n (suc d) t)) .rest)) (sym q)
+        (rest-most _ _ _ _ _ (u-lt n cap cs frame s d m e w t lt)
         (ih (theta n (suc d) t) (theta-lt n d m e t lt)) (ih (phi n (suc d) t) (phi-lt n d m e t lt)))
 
     -- the entries at most double with each layer
     vector-most : (d : ℕ) → d ≤ n → Each d (AtMost (most * 2 ^ d))
-    vector-most zero l = λ j lj. subst (AtMost (most * 2 ^ 0)) (sym (frame-vector n cap cs frame s j lj)) (λ b lb. le-trans (mf j b lj lb) (le-of-eq (sym (mul-one most))))
+    vector-most zero l = λ j lj. subst (AtMost (most * 2 ^ 0)) (sym (frame-vector n cap cs frame s j lj)) (λ b lb. le-trans (mf j lj b lb) (le-of-eq (sym (mul-one most))))
     vector-most (suc d) l = go (n - suc d) (omega arith) (vector-most d (omega arith))
       where
         go : (m : ℕ) → d + suc m ≡ n → Each d (AtMost (most * 2 ^ d)) → Each (suc d) (AtMost (most * 2 ^ suc d))
@@ -93,16 +93,16 @@ module _ (n cap : ℕ) (cs frame s : List ℕ) (g : Coefficients cs) (z : EachZe
             (check-most _ _ _ _ (coefficient-nonzero n (suc d) t cs g) (ih (theta n (suc d) t) (theta-lt n d m e t lt))
             (vector-zero d (omega arith) (phi n (suc d) t) (phi-lt n d m e t lt)) b lb)
             (mul-le-mul (le-refl most) (pow-mono {i = d} {j = suc d} (omega arith))))
-            (λ t lt. variable-most _ _ _ _ _ _ (left-bound d m e ih t lt))
+            (λ t lt. variable-most _ _ _ _ _ _ (rest-bound d m e ih t lt))
 
     -- so with a cap of 2^n times the frame's bound no entry of a variable node exceeds it
-    pub never-exceeds : most * 2 ^ n ≤ cap → (l t c : ℕ) → Within 1 n l → t < 2 ^ n / 2 → c < 64 → getD (loweredAt n cap cs frame s l t .left) c 0 ≤ cap
+    pub never-exceeds : most * 2 ^ n ≤ cap → (l t c : ℕ) → Within 1 n l → t < 2 ^ n / 2 → c < 64 → getD (loweredAt n cap cs frame s l t .rest) c 0 ≤ cap
     unfolding loweredAt
     never-exceeds hc zero t c lw lt lc = absurd (let a = lw .least in omega arith)
     never-exceeds hc (suc d) t c lw lt lc =
         let k = lw .most in
         let e : d + suc (n - suc d) ≡ n = omega arith in
-        le-trans (le-of-eq (ap₂ (λ (x y : List ℕ). getD (lowered (coefficient n (suc d) t cs) (getD (decidedAt n cs s (suc d)) (theta n (suc d) t) 0) x y .left) c 0)
+        le-trans (le-of-eq (ap₂ (λ (x y : List ℕ). getD (lowered (coefficient n (suc d) t cs) (thetaSymbol n (suc d) t cs s) x y .rest) c 0)
         (theta-from n cap cs frame s d t) (phi-from n cap cs frame s d t)))
-        (le-trans (left-bound d (n - suc d) e (vector-most d (omega arith)) t lt c lc)
+        (le-trans (rest-bound d (n - suc d) e (vector-most d (omega arith)) t lt c lc)
         (le-trans (mul-le-mul (le-refl most) (pow-mono {i = suc d} {j = n} k)) hc))

@@ -20,7 +20,7 @@ pub smallest-keeps : (k : ℕ) (f : ℕ → ℕ) → f (smallestTo k f) ≤ f (s
 unfolding smallestTo
 smallest-keeps k f l = ap (λ (t : Bool). cond t (suc k) (smallestTo k f)) (le-ltb (f (suc k)) (f (smallestTo k f)) l)
 
--- and gives way where it is
+-- and the next value is taken where it is
 pub smallest-takes : (k : ℕ) (f : ℕ → ℕ) → f (suc k) < f (smallestTo k f) → smallestTo (suc k) f ≡ suc k
 unfolding smallestTo
 smallest-takes k f l = ap (λ (t : Bool). cond t (suc k) (smallestTo k f)) (lt-ltb (f (suc k)) (f (smallestTo k f)) l)

@@ -9,7 +9,7 @@ use native.Mathlib.Omega.{arith}
 use lib.ListN.{length, getD}
 use lib.Pow.{pow-pos}
 use Rattle.refusal.specs.Tests.{Within}
-use Rattle.polar.specs.Transform.{theta, phi, coefficient, layers}
+use Rattle.polar.specs.Transform.{phi, coefficient, layers}
 use Rattle.polar.specs.Tree.{Tree, at, number}
 use Rattle.polar.specs.Halves.{transformTree, coefsAt}
 use Rattle.polar.proofs.Numbers.{two-pow, half-blocks}
@@ -18,7 +18,7 @@ use Rattle.polar.proofs.Kernels.{phi-is}
 use Rattle.polar.proofs.Windows.{window, window-ext}
 use Rattle.polar.proofs.ByHalves.{block-halves}
 use Rattle.scms.specs.Nodes.{checkNode, variableNode}
-use Rattle.scms.specs.Decoder.{decidedAt, vectors, heldAt}
+use Rattle.scms.specs.Decoder.{thetaSymbol, vectors, heldAt}
 use Rattle.scms.specs.Claims.{Agree, OnlyEarlier}
 use Rattle.scms.proofs.Blocks.{block-fits, u-in-block, check-of, variable-of}
 
@@ -117,12 +117,12 @@ module _ (n cap : ℕ) (cs frame s r : List ℕ) (ls : length s ≡ 2 ^ n) (lr :
 -- u at the θ of kernel t of layer l depends only on the symbols before φ's half of the block
 u-depends : (n : ℕ) (cs s r : List ℕ) → length s ≡ 2 ^ n → length r ≡ 2 ^ n → (l t : ℕ) → Within 1 n l → t < 2 ^ n / 2
     → Agree (phi n l t - t % 2 ^ (n - l)) s r
-    → getD (decidedAt n cs s l) (theta n l t) 0 ≡ getD (decidedAt n cs r l) (theta n l t) 0
+    → thetaSymbol n l t cs s ≡ thetaSymbol n l t cs r
 u-depends n cs s r ls lr zero t lw lt a = absurd (let x = lw .least in omega arith)
 u-depends n cs s r ls lr (suc d) t lw lt a = go (n - suc d) refl (let x = lw .most in omega arith)
   where
     go : (m : ℕ) → n - suc d ≡ m → d + suc m ≡ n
-        → getD (decidedAt n cs s (suc d)) (theta n (suc d) t) 0 ≡ getD (decidedAt n cs r (suc d)) (theta n (suc d) t) 0
+        → thetaSymbol n (suc d) t cs s ≡ thetaSymbol n (suc d) t cs r
     go m k e =
         let w = t / 2 ^ m in
         let i = t % 2 ^ m in
@@ -134,7 +134,7 @@ u-depends n cs s r ls lr (suc d) t lw lt a = go (n - suc d) refl (let x = lw .mo
         let f : phi n (suc d) t ≡ w * (2 ^ m + 2 ^ m) + i + 2 ^ m = ap (phi n (suc d)) (sym q) ∙ phi-is n d m e w i li in
         let g : phi n (suc d) t - t % 2 ^ (n - suc d) ≡ w * (2 ^ m + 2 ^ m) + 2 ^ m
         = ap₂ (λ (x y : ℕ). x - t % 2 ^ y) f k ∙ omega arith in
-        subst (λ (x : ℕ). getD (decidedAt n cs s (suc d)) (theta n (suc d) x) 0 ≡ getD (decidedAt n cs r (suc d)) (theta n (suc d) x) 0) tp
+        subst (λ (x : ℕ). thetaSymbol n (suc d) x cs s ≡ thetaSymbol n (suc d) x cs r) tp
         (u-in-block n d m w (w * (2 ^ m + 2 ^ m)) e refl (p .0) cs s
         ∙ ap (λ (x : Tree ℕ m). at x (p .0)) (u-agrees n cs s r ls lr d m w (w * (2 ^ m + 2 ^ m)) e refl (block-fits n d m w e lb) (subst (λ (x : ℕ). Agree x s r) g a))
         ∙ sym (u-in-block n d m w (w * (2 ^ m + 2 ^ m)) e refl (p .0) cs r))

@@ -11,7 +11,7 @@ use Rattle.polar.proofs.TreeLaws.{map1-at}
 use Rattle.polar.proofs.OneToOne.{Symbol, AllNonZero, transform-symbols, undo, undo-symbols, transform-undo}
 use Rattle.scms.specs.Totals.{Least}
 use Rattle.scms.specs.Halves.{Vectors, checkNodes, variableNodes, clippedNodes, takenNodes, decodeTree}
-use Rattle.scms.proofs.TreeTotals.{penalty, treeTotal, check-total-le, check-total-at, variable-total}
+use Rattle.scms.proofs.TreeTotals.{llrAt, treeTotal, check-total-le, check-total-at, variable-total}
 use Rattle.scms.proofs.TreeDecoder.{decoded-symbols, word-transform}
 
 -- the total of the transform of a word
@@ -74,17 +74,17 @@ BeginsAt s (second i) b u = (u .0 ≡ s .0) × BeginsAt (s .1) i b (u .1)
 -- the least total of what was decided before place i, followed by b
 pub exact : {m : ℕ} (i : Place m) (cap : ℕ) (k : Coefs m) (map : Tree ℕ m) (f : Vectors m) → AllNonZero m k → decodeTree m cap k map f .count ≡ 0 → (b : ℕ) → b < 64
     → Least (Words m (BeginsAt (decodeTree m cap k map f .symbols) i b)) (sentTotal m k f)
-    (penalty (at (decodeTree m cap k map f .held) i) b + at (decodeTree m cap k map f .taken) i)
+    (llrAt (at (decodeTree m cap k map f .held) i) b + at (decodeTree m cap k map f .taken) i)
 unfolding decodeTree transformTree at BeginsAt All treeTotal treeSum map2 AllNonZero
 exact here cap k map f nz e b lb = record {
   by = b;
   meets = (lb, refl);
-  gives = sym (add-zero (penalty f b));
-  bound = λ u p. le-of-eq (add-zero (penalty f b) ∙ ap (penalty f) (sym (p .1)));
+  gives = sym (add-zero (llrAt f b));
+  bound = λ u p. le-of-eq (add-zero (llrAt f b) ∙ ap (llrAt f) (sym (p .1)));
 }
 exact (first {m} i) cap k map f nz e b lb =
     let a = decodeTree m cap (k .1) (map .0) (checkNodes m (k .0) (f .0) (f .1)) in
-    least-check m cap k f nz (BeginsAt (a .symbols) i b) (penalty (at (a .held) i) b + at (a .taken) i)
+    least-check m cap k f nz (BeginsAt (a .symbols) i b) (llrAt (at (a .held) i) b + at (a .taken) i)
     (exact i cap (k .1) (map .0) (checkNodes m (k .0) (f .0) (f .1)) (nz .1) (omega arith) b lb)
 exact (second {m} i) cap k map f nz e b lb =
     let c = checkNodes m (k .0) (f .0) (f .1) in
@@ -92,8 +92,8 @@ exact (second {m} i) cap k map f nz e b lb =
     let v = variableNodes m cap (k .0) (f .0) (f .1) (a .word) in
     let d = decodeTree m cap (k .2) (map .1) v in
     let t = takenNodes m (k .0) (f .0) (f .1) (a .word) in
-    let q : penalty (at (d .held) i) b + at (d .taken) i + t ≡ penalty (at (d .held) i) b + at (map1 m (λ x. x + t) (d .taken)) i
-    = add-assoc (penalty (at (d .held) i) b) (at (d .taken) i) t ∙ ap (λ (x : ℕ). penalty (at (d .held) i) b + x) (sym (map1-at (λ x. x + t) i (d .taken))) in
+    let q : llrAt (at (d .held) i) b + at (d .taken) i + t ≡ llrAt (at (d .held) i) b + at (map1 m (λ x. x + t) (d .taken)) i
+    = add-assoc (llrAt (at (d .held) i) b) (at (d .taken) i) t ∙ ap (λ (x : ℕ). llrAt (at (d .held) i) b + x) (sym (map1-at (λ x. x + t) i (d .taken))) in
     subst (Least (Words (suc m) (λ u. (u .0 ≡ a .symbols) × BeginsAt (d .symbols) i b (u .1))) (sentTotal (suc m) k f)) q
     (least-variable m cap k f nz (a .symbols) (a .word) (decoded-symbols m cap (k .1) (map .0) c) (word-transform m cap (k .1) (map .0) c) (omega arith)
-    (BeginsAt (d .symbols) i b) (penalty (at (d .held) i) b + at (d .taken) i) (exact i cap (k .2) (map .1) v (nz .2) (omega arith) b lb))
+    (BeginsAt (d .symbols) i b) (llrAt (at (d .held) i) b + at (d .taken) i) (exact i cap (k .2) (map .1) v (nz .2) (omega arith) b lb))

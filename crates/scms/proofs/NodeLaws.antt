@@ -10,7 +10,7 @@ use borrow.Author.Tests.{lt-ltb, le-ltb}
 use lib.Arith.{le-zero}
 use lib.Dec.{ltb}
 use lib.ListN.{length, getD}
-use Rattle.vector.specs.Vector.{leastTo, lessLeast, HasZero, OnlyZero}
+use Rattle.vector.specs.Vector.{leastTo, lessLeast, HasZero, AtMost, OnlyZero}
 use Rattle.vector.proofs.Laws.{length-tabulate, getD-tabulate, sum-none, term-le, least-to-le, least-to-at, least-le, less-least-at, less-least-zero}
 use Rattle.gf64.specs.Field.{_⊕_, _⊙_, inverse, NonZero}
 use Rattle.gf64.proofs.SumLaws.{sum-lt, sum-back}
@@ -19,7 +19,7 @@ use Rattle.scms.specs.Nodes.{scaled, checkNode, sums, subtractLeast, cli
 
 -- ---- the count of what exceeds the cap
 
--- an entry that counts exceeds the cap
+-- an entry that does not count does not exceed the cap
 count-none : (cap x : ℕ) → _≡_ {A = ℕ} (cond (ltb cap x) 1 0) 0 → x ≤ cap
 count-none cap x e = go (decLt cap x)
   where
@@ -27,17 +27,17 @@ count-none cap x e = go (decLt cap x)
     go (yes l) = let z : _≡_ {A = ℕ} 1 0 = sym (ap (λ (t : Bool). cond t 1 0) (lt-ltb cap x l)) ∙ e in absurd (omega arith)
     go (no h) = omega arith
 
--- and one that does not exceed it does not count
+-- and the other way round
 none-count : (cap x : ℕ) → x ≤ cap → _≡_ {A = ℕ} (cond (ltb cap x) 1 0) 0
 none-count cap x l = ap (λ (t : Bool). cond t 1 0) (le-ltb cap x l)
 
--- the count is 0 exactly where no entry exceeds the cap
+-- where the count is 0 no entry exceeds the cap
 pub exceeding-none : (cap : ℕ) (v : List ℕ) → exceeding cap v ≡ 0 → (c : ℕ) → c < 64 → getD v c 0 ≤ cap
 unfolding exceeding
 exceeding-none cap v e c l =
     count-none cap (getD v c 0) (le-zero (subst (λ (x : ℕ). cond (ltb cap (getD v c 0)) 1 0 ≤ x) e (term-le 64 (λ i. cond (ltb cap (getD v i 0)) 1 0) c l)))
 
--- the other way round
+-- and the other way round
 pub none-exceeding : (cap : ℕ) (v : List ℕ) → ((c : ℕ) → c < 64 → getD v c 0 ≤ cap) → exceeding cap v ≡ 0
 unfolding exceeding
 none-exceeding cap v h = sum-none 64 (λ i. cond (ltb cap (getD v i 0)) 1 0) (λ i l. none-count cap (getD v i 0) (h i l))
@@ -86,22 +86,22 @@ module _ (h : ℕ) (v w : List ℕ) where
     taken-le c l = least-le (sums h u v w) c l
 
     -- what is left of a sum
-    pub left-at : (c : ℕ) → c < 64 → getD (lowered h u v w .left) c 0 ≡ getD (sums h u v w) c 0 - lowered h u v w .taken
+    pub rest-at : (c : ℕ) → c < 64 → getD (lowered h u v w .rest) c 0 ≡ getD (sums h u v w) c 0 - lowered h u v w .taken
     unfolding lowered subtractLeast
-    left-at c l = less-least-at (sums h u v w) c l
+    rest-at c l = less-least-at (sums h u v w) c l
 
     -- an entry after the cap
-    pub variable-at : (cap c : ℕ) → c < 64 → getD (variableNode cap h u v w) c 0 ≡ min cap (getD (lowered h u v w .left) c 0)
+    pub variable-at : (cap c : ℕ) → c < 64 → getD (variableNode cap h u v w) c 0 ≡ min cap (getD (lowered h u v w .rest) c 0)
     unfolding variableNode clipped
-    variable-at cap c l = getD-tabulate 0 64 (λ i. min cap (getD (lowered h u v w .left) i 0)) c l
+    variable-at cap c l = getD-tabulate 0 64 (λ i. min cap (getD (lowered h u v w .rest) i 0)) c l
 
     -- where nothing is clipped, what is held and what was taken off make the sum
     pub variable-exact : (cap : ℕ) → clippedEntries cap h u v w ≡ 0 → (c : ℕ) → c < 64
         → getD (variableNode cap h u v w) c 0 + lowered h u v w .taken ≡ getD v (u ⊕ c) 0 + getD w (h ⊙ c) 0
     unfolding clippedEntries
     variable-exact cap e c l =
-        let k = exceeding-none cap (lowered h u v w .left) e c l in
-        ap (λ (x : ℕ). x + lowered h u v w .taken) (variable-at cap c l ∙ min-eq-right k ∙ left-at c l)
+        let k = exceeding-none cap (lowered h u v w .rest) e c l in
+        ap (λ (x : ℕ). x + lowered h u v w .taken) (variable-at cap c l ∙ min-eq-right k ∙ rest-at c l)
         ∙ sub-add-cancel (taken-le c l) ∙ sums-at c l
 
 -- ---- what each node keeps: 64 entries, a 0, a bound
@@ -114,7 +114,7 @@ check-long h v w = length-tabulate 64 (λ b. leastTo 63 (λ c. getD v (b ⊕ c) 
 -- so has a variable node
 pub variable-long : (cap h u : ℕ) (v w : List ℕ) → length (variableNode cap h u v w) ≡ 64
 unfolding variableNode clipped
-variable-long cap h u v w = length-tabulate 64 (λ c. min cap (getD (lowered h u v w .left) c 0))
+variable-long cap h u v w = length-tabulate 64 (λ c. min cap (getD (lowered h u v w .rest) c 0))
 
 -- the value c that φ's value z belongs to: h ⊙ c is z
 module _ (h : ℕ) (u : NonZero h) (z : ℕ) (lz : z < 64) where
@@ -153,10 +153,6 @@ variable-zero cap h u v w =
       is-zero = variable-at h v w u cap (p .0) (p .1) ∙ le-zero (le-trans (min-le-right cap (getD (lessLeast (sums h u v w)) (p .0) 0)) (le-of-eq (p .2)));
     }
 
--- every one of the 64 entries is at most a number
-abbrev pub AtMost : ℕ → List ℕ → Type 0
-AtMost most v = (b : ℕ) → b < 64 → getD v b 0 ≤ most
-
 -- a check node never exceeds θ's bound, since φ's vector holds a 0
 pub check-most : (most h : ℕ) (v w : List ℕ) → NonZero h → AtMost most v → HasZero w → AtMost most (checkNode h v w)
 check-most most h v w u mv zw b lb =
@@ -169,9 +165,9 @@ check-most most h v w u mv zw b lb =
     omega arith
 
 -- before the cap an entry of a variable node is at most the two bounds together
-pub left-most : (most h u : ℕ) (v w : List ℕ) → u < 64 → AtMost most v → AtMost most w → AtMost (most + most) (lowered h u v w .left)
-left-most most h u v w lu mv mw c lc =
-    let p = left-at h v w u c lc in
+pub rest-most : (most h u : ℕ) (v w : List ℕ) → u < 64 → AtMost most v → AtMost most w → AtMost (most + most) (lowered h u v w .rest)
+rest-most most h u v w lu mv mw c lc =
+    let p = rest-at h v w u c lc in
     let q = sums-at h v w u c lc in
     let r = mv (u ⊕ c) (sum-lt u c lu lc) in
     let s = mw (h ⊙ c) (product-lt h c) in
@@ -179,12 +175,12 @@ left-most most h u v w lu mv mw c lc =
 
 -- after it, at most the cap
 pub variable-cap : (cap h u : ℕ) (v w : List ℕ) → AtMost cap (variableNode cap h u v w)
-variable-cap cap h u v w c lc = le-trans (le-of-eq (variable-at h v w u cap c lc)) (min-le-left cap (getD (lowered h u v w .left) c 0))
+variable-cap cap h u v w c lc = le-trans (le-of-eq (variable-at h v w u cap c lc)) (min-le-left cap (getD (lowered h u v w .rest) c 0))
 
 -- and no more than before it
-pub variable-most : (most cap h u : ℕ) (v w : List ℕ) → AtMost most (lowered h u v w .left) → AtMost most (variableNode cap h u v w)
+pub variable-most : (most cap h u : ℕ) (v w : List ℕ) → AtMost most (lowered h u v w .rest) → AtMost most (variableNode cap h u v w)
 variable-most most cap h u v w m c lc =
-    le-trans (le-of-eq (variable-at h v w u cap c lc)) (le-trans (min-le-right cap (getD (lowered h u v w .left) c 0)) (m c lc))
+    le-trans (le-of-eq (variable-at h v w u cap c lc)) (le-trans (min-le-right cap (getD (lowered h u v w .rest) c 0)) (m c lc))
 
 -- ---- without noise: both vectors are 0 at one value only
 
@@ -217,7 +213,7 @@ module _ (h : ℕ) (v w : List ℕ) (a b : ℕ) (nh : NonZero h) (la : a < 64) (
   variable-sum : (cap c : ℕ) → c < 64 → getD (variableNode cap h a v w) c 0 ≡ min cap (getD v (a ⊕ c) 0 + getD w (h ⊙ c) 0)
   variable-sum cap c lc =
       variable-at h v w a cap c lc
-      ∙ ap (min cap) (left-at h v w a c lc ∙ ap₂ (λ (x y : ℕ). x - y) (sums-at h v w a c lc) none-taken ∙ less-none (getD v (a ⊕ c) 0 + getD w (h ⊙ c) 0))
+      ∙ ap (min cap) (rest-at h v w a c lc ∙ ap₂ (λ (x y : ℕ). x - y) (sums-at h v w a c lc) none-taken ∙ less-none (getD v (a ⊕ c) 0 + getD w (h ⊙ c) 0))
     where
       less-none : (x : ℕ) → x - 0 ≡ x
       less-none x = omega arith

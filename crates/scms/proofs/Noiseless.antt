@@ -10,13 +10,13 @@ use Rattle.gf64.specs.Field.{_⊕_, _⊙_}
 use Rattle.polar.specs.Code.{kindOf, Coefficients, IsWord}
 use Rattle.polar.specs.Transform.{theta, phi, coefficient, layer, layers, transform, Turned}
 use Rattle.polar.proofs.Kernels.{theta-lt, phi-lt}
-use Rattle.polar.proofs.LayerLaws.{layer-turned}
-use Rattle.scms.specs.Decoder.{decidedAt, vectors, heldAt, symbols}
+use Rattle.polar.proofs.LayerLaws.{layer-turned, layers-word}
+use Rattle.scms.specs.Decoder.{thetaSymbol, vectors, heldAt, symbols}
 use Rattle.scms.specs.Totals.{InCode}
-use Rattle.scms.specs.Claims.{Sent}
+use Rattle.scms.specs.Claims.{Sent, Noiseless}
 use Rattle.scms.proofs.NodeLaws.{check-only, variable-only}
 use Rattle.scms.proofs.DecisionLaws.{decision-only}
-use Rattle.scms.proofs.VectorLaws.{coefficient-nonzero, decided-word, frame-vector, each-vector}
+use Rattle.scms.proofs.VectorLaws.{coefficient-nonzero, frame-vector, each-vector}
 use Rattle.scms.proofs.AnswerLaws.{answer-is}
 
 module _ (n cap : ℕ) (cs map frame u : List ℕ) (hc : 1 ≤ cap) (g : Coefficients cs) (c : InCode n map u) (sent : Sent n frame (transform n cs u)) where
@@ -24,13 +24,13 @@ module _ (n cap : ℕ) (cs map frame u : List ℕ) (hc : 1 ≤ cap) (g : Coeffic
   w : IsWord n u
   w = c .word
 
-  -- the word between layers d + 1 and d
+  -- the word after layers n to d + 1
   abbrev x : ℕ → List ℕ
-  x d = decidedAt n cs u d
+  x d = layers n (n - d) cs u
 
-  -- layer d + 1 turns the word above it into the one below
+  -- layer d + 1 turns the word after layers n to d + 2 into the word after itself
   turned : (d m : ℕ) → d + suc m ≡ n → (t : ℕ) → t < 2 ^ n / 2 → Turned n (suc d) t cs (x (suc d)) (x d)
-  unfolding decidedAt layers
+  unfolding layers
   turned d m e t lt =
       let a : n - d ≡ suc m = omega arith in
       let b : n - suc d ≡ m = omega arith in
@@ -39,16 +39,16 @@ module _ (n cap : ℕ) (cs map frame u : List ℕ) (hc : 1 ≤ cap) (g : Coeffic
       = ap (λ (k : ℕ). layers n k cs u) a ∙ ap (λ (k : ℕ). layer n k cs (layers n m cs u)) c in
       subst (λ (k : ℕ). Turned n (suc d) t cs (layers n k cs u) (layers n (n - d) cs u)) (sym b)
       (subst (λ (y : List ℕ). Turned n (suc d) t cs (layers n m cs u) y) (sym q)
-      (layer-turned n d m e cs (layers n m cs u) (subst (λ (k : ℕ). length (layers n k cs u) ≡ 2 ^ n) b (decided-word n cs u (suc d) (omega arith) w .long)) t lt))
+      (layer-turned n d m e cs (layers n m cs u) (subst (λ (k : ℕ). length (layers n k cs u) ≡ 2 ^ n) b (layers-word n (n - suc d) cs u w .long)) t lt))
 
   -- each vector of layer d is 0 at the symbol of the word there, and nowhere else
-  peaks : (d : ℕ) → d ≤ n → (j : ℕ) → j < 2 ^ n → OnlyZero (getD (vectors n cap cs frame u d) j []) (getD (x d) j 0)
-  unfolding decidedAt transform
-  peaks zero l = λ j lj.
+  only-zero : (d : ℕ) → d ≤ n → (j : ℕ) → j < 2 ^ n → OnlyZero (getD (vectors n cap cs frame u d) j []) (getD (x d) j 0)
+  unfolding thetaSymbol transform
+  only-zero zero l = λ j lj.
       let z : n - 0 ≡ n = omega arith in
       subst (λ (v : List ℕ). OnlyZero v (getD (layers n (n - 0) cs u) j 0)) (sym (frame-vector n cap cs frame u j lj))
       (subst (λ (k : ℕ). OnlyZero (vectorAt frame j) (getD (layers n k cs u) j 0)) (sym z) (sent j lj))
-  peaks (suc d) l = go (n - suc d) (omega arith) (peaks d (omega arith))
+  only-zero (suc d) l = go (n - suc d) (omega arith) (only-zero d (omega arith))
     where
       go : (m : ℕ) → d + suc m ≡ n → ((j : ℕ) → j < 2 ^ n → OnlyZero (getD (vectors n cap cs frame u d) j []) (getD (x d) j 0))
           → (j : ℕ) → j < 2 ^ n → OnlyZero (getD (vectors n cap cs frame u (suc d)) j []) (getD (x (suc d)) j 0)
@@ -63,10 +63,10 @@ module _ (n cap : ℕ) (cs map frame u : List ℕ) (hc : 1 ≤ cap) (g : Coeffic
           r t = getD (x (suc d)) (phi n (suc d) t) 0
 
           p-lt : (t : ℕ) → t < 2 ^ n / 2 → p t < 64
-          p-lt t lt = decided-word n cs u (suc d) (omega arith) w .symbols (theta n (suc d) t) (theta-lt n d m e t lt)
+          p-lt t lt = layers-word n (n - suc d) cs u w .symbols (theta n (suc d) t) (theta-lt n d m e t lt)
 
           r-lt : (t : ℕ) → t < 2 ^ n / 2 → r t < 64
-          r-lt t lt = decided-word n cs u (suc d) (omega arith) w .symbols (phi n (suc d) t) (phi-lt n d m e t lt)
+          r-lt t lt = layers-word n (n - suc d) cs u w .symbols (phi n (suc d) t) (phi-lt n d m e t lt)
 
           at-θ : (t : ℕ) → t < 2 ^ n / 2 → OnlyZero (getD (vectors n cap cs frame u d) (theta n (suc d) t) []) (p t ⊕ r t)
           at-θ t lt = subst (OnlyZero (getD (vectors n cap cs frame u d) (theta n (suc d) t) [])) (turned d m e t lt .sum) (ih (theta n (suc d) t) (theta-lt n d m e t lt))
@@ -75,11 +75,15 @@ module _ (n cap : ℕ) (cs map frame u : List ℕ) (hc : 1 ≤ cap) (g : Coeffic
           at-φ t lt = subst (OnlyZero (getD (vectors n cap cs frame u d) (phi n (suc d) t) [])) (turned d m e t lt .scaled) (ih (phi n (suc d) t) (phi-lt n d m e t lt))
 
   -- so each symbol of the word is decided from what is held with it
-  pub noiseless : symbols n cap cs map frame ≡ u
-  unfolding heldAt decidedAt layers
-  noiseless =
+  decided-so : symbols n cap cs map frame ≡ u
+  unfolding heldAt layers
+  decided-so =
       answer-is n cap cs map frame u (w .long) (λ i l.
       let z : n - n ≡ 0 = omega arith in
       let k : OnlyZero (getD (vectors n cap cs frame u n) i []) (getD u i 0)
-      = subst (λ (j : ℕ). OnlyZero (getD (vectors n cap cs frame u n) i []) (getD (layers n j cs u) i 0)) z (peaks n (le-refl n) i l) in
+      = subst (λ (j : ℕ). OnlyZero (getD (vectors n cap cs frame u n) i []) (getD (layers n j cs u) i 0)) z (only-zero n (le-refl n) i l) in
       sym (decision-only (kindOf (getD map i 0)) (getD (vectors n cap cs frame u n) i []) (getD u i 0) (w .symbols i l) (λ f e. c .holds i f l e) k))
+
+-- without noise the decoder answers the word before the transform
+pub noiseless : (n cap : ℕ) (cs map frame u : List ℕ) → Noiseless n cap cs map frame u
+noiseless n cap cs map frame u hc g c sent = decided-so n cap cs map frame u hc g c sent

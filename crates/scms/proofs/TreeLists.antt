@@ -1,4 +1,4 @@
--- Words, rows and totals: said of lists and of trees, the same.
+-- Words, rows and totals as lists and as trees.
 use mathlib.Core.Path.{_≡_, sym, ap, ap₂, _∙_, subst}
 use mathlib.Core.List.{List, [], _∷_, _++_}
 use Prim.Native.Nat.{ℕ, _+_, _/_, _^_, _<_}
@@ -19,7 +19,7 @@ use Rattle.polar.proofs.OneToOne.{Symbol}
 use Rattle.scms.specs.Totals.{total}
 use Rattle.scms.specs.Halves.{frameTree}
 use Rattle.scms.proofs.TreeSums.{tree-sum}
-use Rattle.scms.proofs.TreeTotals.{penalty, treeTotal}
+use Rattle.scms.proofs.TreeTotals.{llrAt, treeTotal}
 use Rattle.scms.proofs.Exact.{sentTotal, BeginsAt}
 
 -- ---- rows
@@ -113,8 +113,8 @@ module _ (n : ℕ) (cs frame : List ℕ) where
   -- the total of a word
   total-tree : (x : List ℕ) → total n frame x ≡ treeTotal n (frameTree n frame) (treeOf 0 n x)
   unfolding total treeTotal frameTree
-  total-tree x = sym (tree-sum n (map2 n penalty (frameTree n frame) (treeOf 0 n x)) (λ j. getD (vectorAt frame j) (getD x j 0) 0) (λ p.
-      map2-at penalty p (frameTree n frame) (treeOf 0 n x)
+  total-tree x = sym (tree-sum n (map2 n llrAt (frameTree n frame) (treeOf 0 n x)) (λ j. getD (vectorAt frame j) (getD x j 0) 0) (λ p.
+      map2-at llrAt p (frameTree n frame) (treeOf 0 n x)
       ∙ ap₂ (λ (v : List ℕ) (s : ℕ). getD v s 0)
       (treeOf-at [] (tabulate (2 ^ n) (vectorAt frame)) p ∙ getD-tabulate [] (2 ^ n) (vectorAt frame) (number p) (number-lt p)) (treeOf-at 0 x p)))
 

@@ -11,12 +11,12 @@ use Rattle.scms.specs.Halves.{Vectors, checkNodes, variableNodes, clippe
 use Rattle.scms.proofs.NodeLaws.{check-le, check-at, variable-exact}
 
 -- a vector's penalty for a symbol
-abbrev pub penalty : List ℕ → ℕ → ℕ
-penalty v s = getD v s 0
+abbrev pub llrAt : List ℕ → ℕ → ℕ
+llrAt v s = getD v s 0
 
 -- the total of a word over the vectors of its places
 unfoldable pub treeTotal : (m : ℕ) → Vectors m → Tree ℕ m → ℕ
-treeTotal m f x = treeSum m (map2 m penalty f x)
+treeTotal m f x = treeSum m (map2 m llrAt f x)
 
 -- check nodes: no word of the second half makes the total of both halves smaller
 pub check-total-le : (m : ℕ) (h : Tree ℕ m) (f g : Vectors m) (a b : Tree ℕ m) → All m Symbol a → All m Symbol b

@@ -10,9 +10,9 @@ use lib.Pow.{pow-mono}
 use Rattle.vector.specs.Vector.{sumTo}
 use Rattle.vector.proofs.Laws.{sum-none, term-le}
 use Rattle.polar.specs.Code.{Coefficients}
-use Rattle.scms.specs.Nodes.{clippedEntries}
 use Rattle.scms.specs.Decoder.{capOf, loweredAt, clippedAt, clipCount, symbols, count}
 use Rattle.scms.specs.Totals.{EachZero, EachAtMost, Unclipped}
+use Rattle.scms.specs.Claims.{CountZero, NeverClipped}
 use Rattle.scms.proofs.NodeLaws.{exceeding-none, none-exceeding}
 use Rattle.scms.proofs.Bounds.{never-exceeds}
 use Rattle.scms.proofs.AnswerLaws.{symbols-word}
@@ -27,27 +27,31 @@ module _ (n cap : ℕ) (cs map frame : List ℕ) where
   inLayer d = sumTo (2 ^ n / 2) (clippedAt n cap cs frame s (suc d))
 
   -- a count of 0 has no clipped entry
-  pub count-unclipped : count n cap cs map frame ≡ 0 → Unclipped n cap cs map frame
-  unfolding count clipCount inLayer clippedAt clippedEntries loweredAt
+  count-unclipped : count n cap cs map frame ≡ 0 → Unclipped n cap cs map frame
+  unfolding count clipCount inLayer clippedAt
   count-unclipped e zero t c lw lt lc = absurd (let a = lw .least in omega arith)
   count-unclipped e (suc d) t c lw lt lc =
       let a = term-le n inLayer d (lw .most) in
       let b = term-le (2 ^ n / 2) (clippedAt n cap cs frame s (suc d)) t lt in
-      exceeding-none cap (loweredAt n cap cs frame s (suc d) t .left) (le-zero (subst (λ (x : ℕ). clippedAt n cap cs frame s (suc d) t ≤ x) e (le-trans b a))) c lc
+      exceeding-none cap (loweredAt n cap cs frame s (suc d) t .rest) (le-zero (subst (λ (x : ℕ). clippedAt n cap cs frame s (suc d) t ≤ x) e (le-trans b a))) c lc
 
   -- and where no entry is clipped the count is 0
-  pub unclipped-count : Unclipped n cap cs map frame → count n cap cs map frame ≡ 0
-  unfolding count clipCount inLayer clippedAt clippedEntries loweredAt
-  unclipped-count u = sum-none n inLayer (λ d ld.
+  unclipped-zero : Unclipped n cap cs map frame → count n cap cs map frame ≡ 0
+  unfolding count clipCount inLayer clippedAt
+  unclipped-zero u = sum-none n inLayer (λ d ld.
       sum-none (2 ^ n / 2) (clippedAt n cap cs frame s (suc d)) (λ t lt.
-      none-exceeding cap (loweredAt n cap cs frame s (suc d) t .left) (λ c lc. u (suc d) t c (record { least = omega arith; most = ld }) lt lc)))
+      none-exceeding cap (loweredAt n cap cs frame s (suc d) t .rest) (λ c lc. u (suc d) t c (record { least = omega arith; most = ld }) lt lc)))
+
+  -- so the count is 0 exactly where the frame is unclipped
+  pub count-zero : CountZero n cap cs map frame
+  count-zero = record { zero-unclipped = count-unclipped; unclipped-zero = unclipped-zero }
 
   -- where 2^n times the largest penalty of the frame is within the cap, nothing is clipped
   pub unclipped-by : (most : ℕ) → Coefficients cs → EachZero n frame → EachAtMost n most frame → most * 2 ^ n ≤ cap → Unclipped n cap cs map frame
   unclipped-by most g z m hc = never-exceeds n cap cs frame s g z most (symbols-word n cap cs map frame) m hc
 
--- penalties of at most 31, at most 256 places, Qm = 13: 31 × 256 is 7,936, and the cap 8,191
-pub never-clipped : (n : ℕ) (cs map frame : List ℕ) → n ≤ 8 → Coefficients cs → EachZero n frame → EachAtMost n 31 frame → Unclipped n (capOf 13) cs map frame
+-- at Qm = 13 nothing is clipped
+pub never-clipped : (n : ℕ) (cs map frame : List ℕ) → NeverClipped n cs map frame
 unfolding capOf
 never-clipped n cs map frame hn g z m =
     unclipped-by n (capOf 13) cs map frame 31 g z m (le-trans (mul-le-mul (le-refl 31) (pow-mono {i = n} {j = 8} hn)) (lit≤ tt))

@@ -15,7 +15,7 @@ use Rattle.polar.proofs.Kernels.{theta-lt}
 use Rattle.polar.proofs.LayerLaws.{at-layer-long, layer-made, each-place, layers-word}
 use Rattle.polar.proofs.OneToOne.{coef-nonzero}
 use Rattle.scms.specs.Nodes.{checkNode, clipped, lowered, variableNode}
-use Rattle.scms.specs.Decoder.{nodes, decidedAt, vectors, thetaVector, phiVector, loweredAt}
+use Rattle.scms.specs.Decoder.{nodes, thetaSymbol, vectors, thetaVector, phiVector, loweredAt}
 use Rattle.scms.specs.Claims.{UpdateRule}
 use Rattle.scms.proofs.NodeLaws.{check-long, variable-long}
 
@@ -24,11 +24,6 @@ pub coefficient-nonzero : (n l t : ℕ) (cs : List ℕ) → Coefficients cs → 
 unfolding coefficient
 coefficient-nonzero n l t cs g = coef-nonzero cs g ((l - 1) * (2 ^ n / 2) + t)
 
--- the decided symbols are a word at every layer
-pub decided-word : (n : ℕ) (cs s : List ℕ) (l : ℕ) → l ≤ n → IsWord n s → IsWord n (decidedAt n cs s l)
-unfolding decidedAt
-decided-word n cs s l k w = layers-word n _ cs s (omega arith) w
-
 module _ (n cap : ℕ) (cs frame s : List ℕ) where
   -- a layer has a vector for each place
   pub vectors-long : (d : ℕ) → length (vectors n cap cs frame s d) ≡ 2 ^ n
@@ -36,7 +31,7 @@ module _ (n cap : ℕ) (cs frame s : List ℕ) where
   vectors-long zero = length-tabulate (2 ^ n) (vectorAt frame)
   vectors-long (suc d) =
       at-layer-long [] n (suc d) (λ t v w. checkNode (coefficient n (suc d) t cs) v w)
-      (λ t v w. variableNode cap (coefficient n (suc d) t cs) (getD (decidedAt n cs s (suc d)) (theta n (suc d) t) 0) v w)
+      (λ t v w. variableNode cap (coefficient n (suc d) t cs) (thetaSymbol n (suc d) t cs s) v w)
       (vectors n cap cs frame s d)
       ∙ vectors-long d
 
@@ -62,7 +57,7 @@ module _ (n cap : ℕ) (cs frame s : List ℕ) where
 
     -- θ's symbol
     abbrev u : ℕ → ℕ
-    u t = getD (decidedAt n cs s (suc d)) (theta n (suc d) t) 0
+    u t = thetaSymbol n (suc d) t cs s
 
     -- θ's vector
     abbrev v : ℕ → List ℕ
@@ -83,7 +78,8 @@ module _ (n cap : ℕ) (cs frame s : List ℕ) where
 
     -- u is a symbol
     pub u-lt : IsWord n s → (t : ℕ) → t < 2 ^ n / 2 → u t < 64
-    u-lt iw t l = decided-word n cs s (suc d) (omega arith) iw .symbols (theta n (suc d) t) (theta-lt n d m e t l)
+    unfolding thetaSymbol
+    u-lt iw t l = layers-word n _ cs s iw .symbols (theta n (suc d) t) (theta-lt n d m e t l)
 
 -- the update rule holds at every kernel of every layer
 pub update-rule : (n cap : ℕ) (cs frame s : List ℕ) (l t : ℕ) → Within 1 n l → t < 2 ^ n / 2 → UpdateRule n cap cs frame s l t
@@ -92,13 +88,13 @@ update-rule n cap cs frame s zero t lw lt = absurd (let a = lw .least in omega a
 update-rule n cap cs frame s (suc d) t lw lt =
     let e : d + suc (n - suc d) ≡ n = (let a = lw .most in omega arith) in
     let h = coefficient n (suc d) t cs in
-    let u = getD (decidedAt n cs s (suc d)) (theta n (suc d) t) 0 in
+    let u = thetaSymbol n (suc d) t cs s in
     let v = layer-made [] n d (n - suc d) e (λ i x y. checkNode (coefficient n (suc d) i cs) x y)
-    (λ i x y. variableNode cap (coefficient n (suc d) i cs) (getD (decidedAt n cs s (suc d)) (theta n (suc d) i) 0) x y)
+    (λ i x y. variableNode cap (coefficient n (suc d) i cs) (thetaSymbol n (suc d) i cs s) x y)
     (vectors n cap cs frame s d) (vectors-long n cap cs frame s d) t lt in
     record {
       at-theta = v .at-theta ∙ ap₂ (checkNode h) (sym (theta-from n cap cs frame s d t)) (sym (phi-from n cap cs frame s d t));
-      at-phi = v .at-phi ∙ ap₂ (λ (x y : List ℕ). clipped cap (lowered h u x y .left)) (sym (theta-from n cap cs frame s d t)) (sym (phi-from n cap cs frame s d t));
+      at-phi = v .at-phi ∙ ap₂ (λ (x y : List ℕ). clipped cap (lowered h u x y .rest)) (sym (theta-from n cap cs frame s d t)) (sym (phi-from n cap cs frame s d t));
     }
 
 -- from layer 1 on every vector has 64 entries

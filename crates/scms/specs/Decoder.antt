@@ -5,23 +5,23 @@ use lib.ListN.{getD, set, replicate}
 use Rattle.vector.specs.Vector.{tabulate, vectorAt, joined, sumTo}
 use Rattle.polar.specs.Code.{kindOf}
 use Rattle.polar.specs.Transform.{theta, phi, coefficient, atLayer, layers}
-use Rattle.scms.specs.Nodes.{Lowered, checkNode, variableNode, lowered, clippedEntries}
+use Rattle.scms.specs.Nodes.{Lowered, checkNode, variableNode, lowered, exceeding}
 use Rattle.scms.specs.Decision.{decision}
 
 -- the cap of a precision Qm
 unfoldable pub capOf : ℕ → ℕ
 capOf qm = 2 ^ qm - 1
 
--- the nodes of layer l on the vectors of all places: each kernel's check node at θ and its variable node at φ, with u at θ decided
-unfoldable pub nodes : (n l cap : ℕ) (cs u : List ℕ) → List (List ℕ) → List (List ℕ)
-nodes n l cap cs u vs =
+-- u, θ's symbol at kernel t of layer l: what the kernels of the later layers, n down to l + 1, make of the symbols decided, s, at place θ
+unfoldable pub thetaSymbol : (n l t : ℕ) (cs s : List ℕ) → ℕ
+thetaSymbol n l t cs s = getD (layers n (n - l) cs s) (theta n l t) 0
+
+-- the nodes of layer l on the vectors of all places: each kernel's check node at θ, and its variable node at φ
+unfoldable pub nodes : (n l cap : ℕ) (cs s : List ℕ) → List (List ℕ) → List (List ℕ)
+nodes n l cap cs s vs =
     atLayer [] n l
     (λ t v w. checkNode (coefficient n l t cs) v w)
-    (λ t v w. variableNode cap (coefficient n l t cs) (getD u (theta n l t) 0) v w) vs
-
--- u at layer l, for each place: the symbols decided, s, after the kernels of the later layers, n down to l + 1
-unfoldable pub decidedAt : (n : ℕ) (cs s : List ℕ) → ℕ → List ℕ
-decidedAt n cs s l = layers n (n - l) cs s
+    (λ t v w. variableNode cap (coefficient n l t cs) (thetaSymbol n l t cs s) v w) vs
 
 -- A code, a frame and a cap, and a word s with the symbols decided so far. What s holds at a place not yet decided reaches only vectors of
 -- later places (specs/Claims, OnlyEarlier), so it does not matter.
@@ -29,7 +29,7 @@ module _ (n cap : ℕ) (cs frame s : List ℕ) where
   -- the vectors of layer l, one for each place; those of layer 0 are the frame's
   unfoldable pub vectors : ℕ → List (List ℕ)
   vectors zero = tabulate (2 ^ n) (vectorAt frame)
-  vectors (suc d) = nodes n (suc d) cap cs (decidedAt n cs s (suc d)) (vectors d)
+  vectors (suc d) = nodes n (suc d) cap cs s (vectors d)
 
   -- θ's vector that the nodes of kernel t of layer l are given: of layer l − 1
   unfoldable pub thetaVector : (l t : ℕ) → List ℕ
@@ -41,7 +41,7 @@ module _ (n cap : ℕ) (cs frame s : List ℕ) where
 
   -- the variable node of kernel t of layer l before the cap, and what it took off
   unfoldable pub loweredAt : (l t : ℕ) → Lowered
-  loweredAt l t = lowered (coefficient n l t cs) (getD (decidedAt n cs s l) (theta n l t) 0) (thetaVector l t) (phiVector l t)
+  loweredAt l t = lowered (coefficient n l t cs) (thetaSymbol n l t cs s) (thetaVector l t) (phiVector l t)
 
   -- the 64 penalties held at place i: its vector of layer n
   unfoldable pub heldAt : ℕ → List ℕ
@@ -49,14 +49,15 @@ module _ (n cap : ℕ) (cs frame s : List ℕ) where
 
   -- the count of clipped entries of the variable node of kernel t of layer l
   unfoldable pub clippedAt : (l t : ℕ) → ℕ
-  clippedAt l t = clippedEntries cap (coefficient n l t cs) (getD (decidedAt n cs s l) (theta n l t) 0) (thetaVector l t) (phiVector l t)
+  clippedAt l t = exceeding cap (loweredAt l t .rest)
 
   -- the count of clipped entries over all variable nodes: layers 1 to n, kernels 0 to N/2 − 1
   unfoldable pub clipCount : ℕ
   clipCount = sumTo n (λ d. sumTo (2 ^ n / 2) (clippedAt (suc d)))
 
-  -- what the nodes of layer l took off on the line of place i. Layer l halves the block of 2 × 2^(n−l) places in which i lies: in its second
-  -- half, where i / 2^(n−l) is odd, all 2^(n−l) kernels of the block count; in its first half, which check nodes feed, none
+  -- The line of place i: the nodes of layers 1 to n that its vector of layer n is made from. What those of layer l took off: that layer halves
+  -- the block of 2 × 2^(n−l) places in which i lies. In its second half, where i / 2^(n−l) is odd, all 2^(n−l) kernels of the block count; in its
+  -- first half, which check nodes feed, none
   unfoldable pub takenIn : (l i : ℕ) → ℕ
   takenIn l i = i / 2 ^ (n - l) % 2 * sumTo (2 ^ (n - l)) (λ k. loweredAt l (i / (2 * 2 ^ (n - l)) * 2 ^ (n - l) + k) .taken)
 

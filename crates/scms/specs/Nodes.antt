@@ -1,4 +1,5 @@
--- The two kinds of nodes. A node of a kernel makes one vector of 64 penalties from two: θ's and φ's of the layer next to the channel.
+-- The two kinds of nodes. A node of a kernel makes one vector of 64 penalties from two: θ's and φ's of the layer before its own, on the side of
+-- the channel.
 use Prim.Native.Nat.{ℕ, _+_, min}
 use mathlib.Core.Bool.{cond}
 use mathlib.Core.List.{List}
@@ -11,26 +12,30 @@ use Rattle.gf64.specs.Field.{_⊕_, _⊙_}
 unfoldable pub scaled : (h : ℕ) → List ℕ → List ℕ
 scaled h phi = tabulate 64 (λ c. getD phi (h ⊙ c) 0)
 
+-- a node's sum at c: θ's penalty at b ⊕ c plus w's at c, w being φ's vector in the order of c
+abbrev pub sumAt : (theta w : List ℕ) (b c : ℕ) → ℕ
+sumAt theta w b c = getD theta (b ⊕ c) 0 + getD w c 0
+
 -- a check node: value b gets the least, over all c, of θ's penalty at b ⊕ c plus φ's at h ⊙ c
 unfoldable pub checkNode : (h : ℕ) (theta phi : List ℕ) → List ℕ
 checkNode h theta phi =
     let w = scaled h phi in
-    tabulate 64 (λ b. leastTo 63 (λ c. getD theta (b ⊕ c) 0 + getD w c 0))
+    tabulate 64 (λ b. leastTo 63 (sumAt theta w b))
 
 -- the sums of a variable node, θ's symbol being u: c gets θ's penalty at u ⊕ c plus φ's at h ⊙ c
 unfoldable pub sums : (h u : ℕ) (theta phi : List ℕ) → List ℕ
 sums h u theta phi =
     let w = scaled h phi in
-    tabulate 64 (λ c. getD theta (u ⊕ c) 0 + getD w c 0)
+    tabulate 64 (sumAt theta w u)
 
 -- a vector less its least entry, and what was taken off
 pub record Lowered : Type 0 where
-  pub left : List ℕ
+  pub rest : List ℕ
   pub taken : ℕ
 
 -- the step that subtracts the least of the 64
 unfoldable pub subtractLeast : List ℕ → Lowered
-subtractLeast v = record { left = lessLeast v; taken = least v }
+subtractLeast v = record { rest = lessLeast v; taken = least v }
 
 -- what exceeds the cap, clipped to it
 unfoldable pub clipped : (cap : ℕ) → List ℕ → List ℕ
@@ -46,8 +51,8 @@ lowered h u theta phi = subtractLeast (sums h u theta phi)
 
 -- a variable node: the least is subtracted, and then what exceeds the cap is clipped to it
 unfoldable pub variableNode : (cap h u : ℕ) (theta phi : List ℕ) → List ℕ
-variableNode cap h u theta phi = clipped cap (lowered h u theta phi .left)
+variableNode cap h u theta phi = clipped cap (lowered h u theta phi .rest)
 
 -- its count of clipped entries
 unfoldable pub clippedEntries : (cap h u : ℕ) (theta phi : List ℕ) → ℕ
-clippedEntries cap h u theta phi = exceeding cap (lowered h u theta phi .left)
+clippedEntries cap h u theta phi = exceeding cap (lowered h u theta phi .rest)

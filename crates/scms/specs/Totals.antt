@@ -1,10 +1,10 @@
--- What the decoder is held to: totals of words from the frame's own penalties, and which frames are unclipped.
+-- Totals of words, from the frame's own penalties; the words of the code; and which frames are unclipped.
 use Prim.Native.Nat.{ℕ, _/_, _^_, _≤_, _<_}
 use mathlib.Core.Path.{_≡_}
 use mathlib.Core.List.{List}
 use lib.ListN.{length, getD, take}
 use Rattle.refusal.specs.Tests.{Within}
-use Rattle.vector.specs.Vector.{vectorAt, sumTo, HasZero}
+use Rattle.vector.specs.Vector.{vectorAt, sumTo, HasZero, AtMost}
 use Rattle.polar.specs.Code.{kindOf, message, frozen, IsWord}
 use Rattle.polar.specs.Transform.{transform}
 use Rattle.scms.specs.Decoder.{loweredAt, symbols}
@@ -29,7 +29,7 @@ pub record Begins (n : ℕ) (row u : List ℕ) : Type 0 where
 abbrev pub LeastTotal : (n : ℕ) (cs frame row : List ℕ) → ℕ → Type 0
 LeastTotal n cs frame row t = Least (Begins n row) (λ u. total n frame (transform n cs u)) t
 
--- u, before the transform, is a word of the code: every frozen place has the symbol that it always holds
+-- u, before the transform, is a word of the code: every frozen place has the symbol of its kind, 0
 pub record InCode (n : ℕ) (map u : List ℕ) : Type 0 where
   pub word : IsWord n u
   pub holds : (i s : ℕ) → i < 2 ^ n → kindOf (getD map i 0) ≡ frozen s → getD u i 0 ≡ s
@@ -44,10 +44,10 @@ EachZero n frame = (i : ℕ) → i < 2 ^ n → HasZero (vectorAt frame i)
 
 -- each of the frame's entries is at most a number
 abbrev pub EachAtMost : (n most : ℕ) → List ℕ → Type 0
-EachAtMost n most frame = (i b : ℕ) → i < 2 ^ n → b < 64 → getD (vectorAt frame i) b 0 ≤ most
+EachAtMost n most frame = (i : ℕ) → i < 2 ^ n → AtMost most (vectorAt frame i)
 
 -- the frame is unclipped: in no layer has any kernel's variable node an entry above the cap after the least is subtracted
 abbrev pub Unclipped : (n cap : ℕ) (cs map frame : List ℕ) → Type 0
 Unclipped n cap cs map frame =
     (l t c : ℕ) → Within 1 n l → t < 2 ^ n / 2 → c < 64
-    → getD (loweredAt n cap cs frame (symbols n cap cs map frame) l t .left) c 0 ≤ cap
+    → getD (loweredAt n cap cs frame (symbols n cap cs map frame) l t .rest) c 0 ≤ cap

@@ -1,5 +1,5 @@
 -- Vectors of 64 numbers, one for each value of a symbol, in order of value; and the sums and the least of numbers by index.
-use Prim.Native.Nat.{ℕ, zero, suc, _+_, _*_, _-_, _<_, min}
+use Prim.Native.Nat.{ℕ, zero, suc, _+_, _*_, _-_, _≤_, _<_, min}
 use mathlib.Core.Path.{_≡_}
 use mathlib.Core.List.{List, [], _∷_, _++_}
 use lib.ListN.{getD, take, drop}
@@ -42,6 +42,10 @@ pub record HasZero (v : List ℕ) : Type 0 where
   pub zero-at : ℕ
   pub within : zero-at < 64
   pub is-zero : getD v zero-at 0 ≡ 0
+
+-- none of the 64 entries is above a number
+abbrev pub AtMost : ℕ → List ℕ → Type 0
+AtMost most v = (b : ℕ) → b < 64 → getD v b 0 ≤ most
 
 -- the entry of s is 0, and no other of the 64 is
 pub record OnlyZero (v : List ℕ) (s : ℕ) : Type 0 where

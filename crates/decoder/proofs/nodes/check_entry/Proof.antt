@@ -9,7 +9,8 @@ use Rattle.vector.specs.Vector.{leastTo}
 use Rattle.vector.proofs.Laws.{least-more}
 use Rattle.gf64.specs.Field.{_⊕_}
 use Rattle.gf64.proofs.SumLaws.{sum-lt, sum-zero}
-use Rattle.decoder.proofs.Laws.{sumAt, sum-small}
+use Rattle.scms.specs.Nodes.{sumAt}
+use Rattle.decoder.proofs.Laws.{sum-small}
 use Rattle.decoder.proofs.nodes.check_entry.Statement.{statement}
 use Rattle.decoder.proofs.nodes.check_entry.Tie as tie
 

@@ -6,8 +6,8 @@ use native.Mathlib.Omega.{arith}
 use borrow.Author.Needs.{needs}
 use Rattle.vector.specs.Vector.{tabulate, leastTo}
 use Rattle.vector.proofs.Laws.{Filled, fill-none, fill-more, fill-all}
-use Rattle.scms.specs.Nodes.{checkNode}
-use Rattle.decoder.proofs.Laws.{sumAt, scaled-small}
+use Rattle.scms.specs.Nodes.{sumAt, checkNode}
+use Rattle.decoder.proofs.Laws.{scaled-small}
 use Rattle.decoder.proofs.nodes.check_node.Statement.{statement}
 use Rattle.decoder.proofs.nodes.check_node.Tie as tie
 

@@ -8,8 +8,8 @@ use Rattle.vector.specs.Vector.{tabulate}
 use Rattle.vector.proofs.Laws.{Filled, fill-none, fill-more, fill-all}
 use Rattle.gf64.specs.Field.{_⊕_}
 use Rattle.gf64.proofs.SumLaws.{sum-lt}
-use Rattle.scms.specs.Nodes.{sums}
-use Rattle.decoder.proofs.Laws.{sumAt, sum-small, scaled-small}
+use Rattle.scms.specs.Nodes.{sumAt, sums}
+use Rattle.decoder.proofs.Laws.{sum-small, scaled-small}
 use Rattle.decoder.proofs.nodes.sums.Statement.{statement}
 use Rattle.decoder.proofs.nodes.sums.Tie as tie
 

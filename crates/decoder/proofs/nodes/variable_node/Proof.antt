@@ -1,7 +1,8 @@
 -- `variable_node` meets its contract: what its parts ensure, put together.
-use native.Mathlib.Omega.{arith}
+use mathlib.Core.Path.{ap, _∙_}
 use borrow.Author.Needs.{needs}
-use Rattle.scms.specs.Nodes.{variableNode, clippedEntries, lowered, subtractLeast}
+use Rattle.vector.specs.Vector.{lessLeast}
+use Rattle.scms.specs.Nodes.{clipped, exceeding, variableNode, clippedEntries, lowered, subtractLeast}
 use Rattle.decoder.proofs.nodes.variable_node.Statement.{statement}
 use Rattle.decoder.proofs.nodes.variable_node.Tie as tie
 
@@ -16,7 +17,15 @@ clip-llrs-requires c κs = search needs
 
 returns : tie.Need-returns
 unfolding variableNode clippedEntries lowered subtractLeast
-returns c = record { llrs-are = (cc); count-is = (cc); few = omega arith }
+returns c =
+    let cap = c .before .before .before .before .before .before .before .args .cap in
+    let low = c .before .before .subtract-least .ensures ∙ ap lessLeast (c .before .before .before .before .sums .ensures) in
+    let made = c .clip-llrs .ensures in
+    record {
+      llrs-are = made .0 ∙ ap (clipped cap) low;
+      count-is = made .1 ∙ ap (exceeding cap) low;
+      few = made .2;
+    }
 
 pub variable-node-spec : {M : Type 1} → statement M
 variable-node-spec =
