@@ -1,13 +1,12 @@
 -- What it means that `encode` takes its input, and what it then has to hand its parts.
 use mathlib.Core.Path.{_≡_, refl, sym, ap, ap₂, _∙_, subst}
-use mathlib.Core.Logic.{_⊎_, inl, inr}
 use mathlib.Core.List.{List}
 use Prim.Native.Nat.{ℕ, zero, suc, _+_, _*_, _/_, _^_, _≤_, _<_}
 use native.Mathlib.Nat.{mul-le-mul}
 use native.Mathlib.Omega.{arith}
 use borrow.Author.Tests.{ne-eqb, eqb-false}
 use lib.Dec.{lit<}
-use lib.ListN.{length, getD, List·getD-eq-default}
+use lib.ListN.{length, getD}
 use lib.Pow.{pow-mono}
 use Rattle.refusal.specs.Table.{Numbered}
 use Rattle.refusal.proofs.Laws.{taken-none, none-taken}
@@ -16,7 +15,7 @@ use Rattle.polar.specs.Code.{messagePlaces, IsWord}
 use Rattle.polar.specs.Encode.{wordBefore, codewordOf, encodeTable, encodeRefusal, Encodable}
 use Rattle.polar.specs.Halves.{blockTransform}
 use Rattle.polar.specs.Parts.{Room, Block, Placing}
-use Rattle.polar.proofs.Numbers.{half-pow, lt-or-le}
+use Rattle.polar.proofs.Numbers.{half-pow, getD-each}
 use Rattle.polar.proofs.MessageLaws.{length-word, word-symbols}
 use Rattle.polar.proofs.ByHalves.{by-halves}
 use Rattle.polar.proofs.OneToOne.{transform-word}
@@ -113,11 +112,7 @@ module _ (n : ℕ) (map cs symbols buffer : List ℕ) (t : Encodable n map cs sy
 
   -- every number of the message is a symbol, and so is what the list gives past its end
   message-lt : (i : ℕ) → getD symbols i 0 < 64
-  message-lt i = go (lt-or-le i (length symbols))
-    where
-      go : (i < length symbols) ⊎ (length symbols ≤ i) → getD symbols i 0 < 64
-      go (inl l) = let m = t .message-symbols i l .most in omega arith
-      go (inr l) = subst (λ (x : ℕ). x < 64) (sym (List·getD-eq-default symbols 0 l)) (lit< tt)
+  message-lt = getD-each (λ (x : ℕ). x < 64) 0 symbols (lit< tt) (λ i l. let m = t .message-symbols i l .most in omega arith)
 
   -- the word before the transform and the codeword are words: N symbols each
   pub before-word : IsWord n (wordBefore map symbols)

@@ -6,13 +6,13 @@ use Prim.Native.Nat.{ℕ, zero, suc, _+_, _/_, _-_, _^_, _≤_, _<_}
 use native.Mathlib.Omega.{arith}
 use native.Mathlib.Nat.{le-refl}
 use lib.Dec.{lit<}
-use lib.ListN.{length, getD, set, length-set, List·getD-eq-default}
+use lib.ListN.{length, getD, set, length-set}
 use Rattle.gf64.specs.Field.{_⊕_, _⊙_}
 use Rattle.gf64.proofs.SumLaws.{sum-lt}
 use Rattle.gf64.proofs.ProductLaws.{product-lt}
 use Rattle.polar.specs.Code.{IsWord}
 use Rattle.polar.specs.Transform.{theta, phi, coefficient, atKernel, atKernels, atLayer, layer, layers, Turned}
-use Rattle.polar.proofs.Numbers.{lt-or-le, both-first, both-second, both-other}
+use Rattle.polar.proofs.Numbers.{lt-or-le, getD-each, both-first, both-second, both-other}
 use Rattle.polar.proofs.Kernels.{theta-theta, theta-phi, phi-phi, theta-lt-phi, phi-lt, theta-lt, one-kernel}
 
 -- kernel t of layer l has made y from x at its two places, by its functions f and g
@@ -178,16 +178,12 @@ layers-symbols n zero cs u h = h
 layers-symbols n (suc k) cs u h = kernels-symbols n (n - k) (2 ^ n / 2) cs (layers n k cs u) (layers-symbols n k cs u h)
 
 -- a word has symbols only
-word-symbols : (n : ℕ) (u : List ℕ) → IsWord n u → Symbols u
-word-symbols n u w j = go (lt-or-le j (2 ^ n))
-  where
-    go : (j < 2 ^ n) ⊎ (2 ^ n ≤ j) → getD u j 0 < 64
-    go (inl l) = w .symbols j l
-    go (inr l) = subst (λ (x : ℕ). x < 64) (sym (List·getD-eq-default u 0 (let e = w .long in omega arith))) (lit< tt)
+word-each : (n : ℕ) (u : List ℕ) → IsWord n u → Symbols u
+word-each n u w = getD-each (λ (x : ℕ). x < 64) 0 u (lit< tt) (λ j l. w .symbols j (let e = w .long in omega arith))
 
 -- the words between the layers are words
 pub layers-word : (n k : ℕ) (cs u : List ℕ) → IsWord n u → IsWord n (layers n k cs u)
 layers-word n k cs u w = record {
   long = layers-long n k cs u ∙ w .long;
-  symbols = λ j l. layers-symbols n k cs u (word-symbols n u w) j;
+  symbols = λ j l. layers-symbols n k cs u (word-each n u w) j;
 }

@@ -40,6 +40,12 @@ getD-any [] i d e l = absurd (not-suc-le-zero l)
 getD-any (x ∷ xs) zero d e l = refl
 getD-any (x ∷ xs) (suc i) d e l = getD-any xs i d e (le-of-suc-le-suc l)
 
+-- a property of every entry of a list, and of the default past its end
+pub getD-each : {A : Type 0} (P : A → Type 0) (d : A) (xs : List A) → P d → ((i : ℕ) → i < length xs → P (getD xs i d)) → (i : ℕ) → P (getD xs i d)
+getD-each P d [] p h i = p
+getD-each P d (x ∷ xs) p h zero = h zero (omega arith)
+getD-each P d (x ∷ xs) p h (suc i) = getD-each P d xs p (λ j l. h (suc j) (omega arith)) i
+
 -- two places of a list stored to
 module _ {A : Type 0} (d : A) (xs : List A) (i j : ℕ) (x y : A) (li : i < length xs) (lj : j < length xs) (ne : i < j) where
   abbrev both : List A

@@ -1,11 +1,10 @@
 -- With coefficients from 1 to 63 the transform is one to one and onto: it is undone by halves.
 use mathlib.Core.Path.{_≡_, refl, sym, ap, ap₂, _∙_, subst}
-use mathlib.Core.Logic.{_⊎_, inl, inr}
 use mathlib.Core.List.{List}
-use Prim.Native.Nat.{ℕ, zero, suc, _+_, _/_, _^_, _≤_, _<_}
+use Prim.Native.Nat.{ℕ, zero, suc, _+_, _/_, _^_, _<_}
 use native.Mathlib.Omega.{arith}
 use lib.Dec.{lit<}
-use lib.ListN.{length, getD, take, drop, List·getD-eq-default}
+use lib.ListN.{getD, take, drop}
 use lib.Seq.{getD-take, getD-drop}
 use Rattle.gf64.specs.Field.{_⊕_, _⊙_, inverse, NonZero}
 use Rattle.gf64.proofs.SumLaws.{sum-lt, sum-back}
@@ -14,7 +13,7 @@ use Rattle.polar.specs.Code.{Coefficients, IsWord}
 use Rattle.polar.specs.Transform.{transform}
 use Rattle.polar.specs.Tree.{Tree, map2, All, leaves, treeOf, at}
 use Rattle.polar.specs.Halves.{Coefs, join, transformTree, coefsAt, blockTransform}
-use Rattle.polar.proofs.Numbers.{lt-or-le}
+use Rattle.polar.proofs.Numbers.{getD-each}
 use Rattle.polar.proofs.TreeLaws.{map2-at, ext-at, all-by, all-at, length-leaves, treeOf-leaves, leaves-treeOf, all-treeOf, all-leaves}
 use Rattle.polar.proofs.LayerLaws.{layers-word}
 use Rattle.polar.proofs.ByHalves.{by-halves}
@@ -128,11 +127,8 @@ transform-undo (suc m) h x g p =
 
 -- a coefficient, and the 1 past the list's end, is a symbol other than 0
 pub coef-nonzero : (cs : List ℕ) → Coefficients cs → (i : ℕ) → NonZero (getD cs i 1)
-coef-nonzero cs g i = go (lt-or-le i (length cs))
-  where
-    go : (i < length cs) ⊎ (length cs ≤ i) → NonZero (getD cs i 1)
-    go (inl l) = let w = g i l in record { positive = w .least; symbol = (let m = w .most in omega arith) }
-    go (inr l) = subst NonZero (sym (List·getD-eq-default cs 1 l)) (record { positive = lit< tt; symbol = lit< tt })
+coef-nonzero cs g = getD-each NonZero 1 cs (record { positive = lit< tt; symbol = lit< tt })
+    (λ i l. let w = g i l in record { positive = w .least; symbol = (let m = w .most in omega arith) })
 
 -- so are all coefficients of a block
 pub coefs-nonzero : (m start stride : ℕ) (cs : List ℕ) → Coefficients cs → AllNonZero m (coefsAt m start stride cs)

@@ -6,7 +6,7 @@ use native.Mathlib.Nat.{add-zero, add-assoc, zero-add}
 use native.Mathlib.Omega.{arith}
 use lib.ListN.{length, getD, take, drop}
 use lib.Seq.{getD-take, getD-drop}
-use Rattle.polar.specs.Transform.{phi, coefficient, atLayer}
+use Rattle.polar.specs.Transform.{theta, phi, coefficient, atLayer}
 use Rattle.polar.specs.Tree.{Tree, treeOf, Place, here, first, second, at, number}
 use Rattle.polar.proofs.TreeLaws.{number-lt, ext-at, treeOf-at}
 use Rattle.polar.proofs.Kernels.{theta-is, phi-is}
@@ -53,27 +53,26 @@ module _ (n d m w : ℕ) (e : d + suc m ≡ n) (fits : w * (2 ^ m + 2 ^ m) + (2 
     φ : phi n (suc d) (w * 2 ^ m + number p) ≡ o + 2 ^ m + number p
     φ = phi-is n d m e w (number p) (number-lt p) ∙ omega arith
 
+    -- a place of the block after the layer, by what a kernel's function h makes at θ or φ
+    made-at : (h : A → A → A) (start j : ℕ) → j ≡ start + number p
+        → getD y j b ≡ h (getD x (theta n (suc d) (w * 2 ^ m + number p)) b) (getD x (phi n (suc d) (w * 2 ^ m + number p)) b)
+        → at (window b m start y) p ≡ h (at (window b m o x) p) (at (window b m (o + 2 ^ m) x) p)
+    made-at h start j q made =
+        window-at b p start y ∙ ap (λ (k : ℕ). getD y k b) (sym q) ∙ made
+        ∙ ap₂ (λ (k l : ℕ). h (getD x k b) (getD x l b)) (theta-is n d m e w (number p) (number-lt p)) φ
+        ∙ ap₂ h (sym (window-at b p o x)) (sym (window-at b p (o + 2 ^ m) x))
+
     -- its first half: what the kernels' first functions make of the two halves
     pub first-made : at (window b m o y) p ≡ f (w * 2 ^ m + number p) (at (window b m o x) p) (at (window b m (o + 2 ^ m) x) p)
     first-made =
-        let i = number p in
-        let l = number-lt p in
-        let θ = theta-is n d m e w i l in
-        window-at b p o y ∙ ap (λ (j : ℕ). getD y j b) (sym θ)
-        ∙ layer-made b n d m e f g x long (w * 2 ^ m + i) (kernel-lt i l) .at-theta
-        ∙ ap₂ (λ (j k : ℕ). f (w * 2 ^ m + i) (getD x j b) (getD x k b)) θ φ
-        ∙ ap₂ (f (w * 2 ^ m + i)) (sym (window-at b p o x)) (sym (window-at b p (o + 2 ^ m) x))
+        made-at (f (w * 2 ^ m + number p)) o (theta n (suc d) (w * 2 ^ m + number p)) (theta-is n d m e w (number p) (number-lt p))
+        (layer-made b n d m e f g x long (w * 2 ^ m + number p) (kernel-lt (number p) (number-lt p)) .at-theta)
 
     -- its second half: what their second functions make
     pub second-made : at (window b m (o + 2 ^ m) y) p ≡ g (w * 2 ^ m + number p) (at (window b m o x) p) (at (window b m (o + 2 ^ m) x) p)
     second-made =
-        let i = number p in
-        let l = number-lt p in
-        let θ = theta-is n d m e w i l in
-        window-at b p (o + 2 ^ m) y ∙ ap (λ (j : ℕ). getD y j b) (sym φ)
-        ∙ layer-made b n d m e f g x long (w * 2 ^ m + i) (kernel-lt i l) .at-phi
-        ∙ ap₂ (λ (j k : ℕ). g (w * 2 ^ m + i) (getD x j b) (getD x k b)) θ φ
-        ∙ ap₂ (g (w * 2 ^ m + i)) (sym (window-at b p o x)) (sym (window-at b p (o + 2 ^ m) x))
+        made-at (g (w * 2 ^ m + number p)) (o + 2 ^ m) (phi n (suc d) (w * 2 ^ m + number p)) φ
+        (layer-made b n d m e f g x long (w * 2 ^ m + number p) (kernel-lt (number p) (number-lt p)) .at-phi)
 
 -- the coefficients of block w of layer d + 1, from `start` on
 pub block-coefs : (n d m w start : ℕ) (cs : List ℕ) → start ≡ d * (2 ^ n / 2) + w * 2 ^ m → (p : Place m)

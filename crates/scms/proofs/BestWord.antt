@@ -19,8 +19,7 @@ use Rattle.scms.specs.Claims.{BestWord}
 use Rattle.scms.specs.Halves.{Vectors, checkNodes, variableNodes, clippedNodes, decodeTree, frameTree, decodeHalves}
 use Rattle.scms.proofs.DecisionLaws.{smallest-least, decision-lt, decision-frozen, decision-message, KindCases, kind-cases}
 use Rattle.scms.proofs.AnswerLaws.{symbols-word, symbol-decided}
-use Rattle.scms.proofs.Unclipped.{count-zero}
-use Rattle.scms.proofs.ByHalves.{same-answer}
+use Rattle.scms.proofs.ByHalves.{same-answer, halves-unclipped}
 use Rattle.scms.proofs.TreeDecoder.{decoded-symbols, word-transform}
 use Rattle.scms.proofs.TreeTotals.{llrAt, treeTotal, variable-total}
 use Rattle.scms.proofs.Exact.{sentTotal, Words, least-check, least-variable}
@@ -148,8 +147,7 @@ module _ (n cap : ℕ) (cs map frame : List ℕ) where
       let k = coefsAt n 0 (2 ^ n / 2) cs in
       let a = decodeHalves n cap cs map frame in
       let same = same-answer n cap cs map frame in
-      let none : a .count ≡ 0 = same .same-count ∙ count-zero n cap cs map frame .unclipped-zero un in
-      let l = tree-best n cap k (treeOf 0 n map) (frameTree n frame) (coefs-nonzero n 0 (2 ^ n / 2) cs g) (first-of n map ff) none in
+      let l = tree-best n cap k (treeOf 0 n map) (frameTree n frame) (coefs-nonzero n 0 (2 ^ n / 2) cs g) (first-of n map ff) (halves-unclipped n cap cs map frame un) in
       let t : total n frame (transform n cs (symbols n cap cs map frame)) ≡ treeTotal n (frameTree n frame) (a .word)
       = ap (λ (x : List ℕ). total n frame (transform n cs x)) (sym (same .same-symbols)) ∙ sent-leaves n cs frame (a .symbols)
       ∙ ap (treeTotal n (frameTree n frame)) (sym (word-transform n cap k (treeOf 0 n map) (frameTree n frame))) in

@@ -9,7 +9,7 @@ use lib.ListN.{take, drop}
 use Rattle.vector.specs.Vector.{sumTo}
 use Rattle.vector.proofs.Laws.{sum-ext, sum-first, sum-split, sum-add}
 use Rattle.polar.specs.Transform.{coefficient, layers}
-use Rattle.polar.specs.Tree.{Tree, map3, map4, treeOf, Place, here, at, number}
+use Rattle.polar.specs.Tree.{Tree, map3, map4, treeOf, Place, here, at, number, treeSum}
 use Rattle.polar.proofs.Numbers.{two-pow, half-pow}
 use Rattle.polar.proofs.TreeLaws.{number-lt, map3-at, map4-at, ext-at}
 use Rattle.polar.proofs.Windows.{window, block-coefs}
@@ -158,17 +158,21 @@ module _ (n cap : ℕ) (cs frame r : List ℕ) where
           ap₂ (λ (x y : ℕ). f x y (thetaVector n cap cs frame r (suc d) t) (phiVector n cap cs frame r (suc d) t)) (coefs p) (u-in-block n d m w o e eo p cs r)
           ∙ ap₂ (f (at hs p) (at U p)) (theta-in-block n cap cs frame r d m w o e eo p) (phi-in-block n cap cs frame r d m w o e eo p)
 
-      -- the block's sums
+      -- a number for each kernel, summed over the block
+      kernel-sum : (f : ℕ → ℕ → List ℕ → List ℕ → ℕ) → treeSum m (map4 m (λ k v y s. f k s v y) hs F G U)
+          ≡ sumTo (2 ^ m) (λ i. f (coefficient n (suc d) (w * 2 ^ m + i) cs) (thetaSymbol n (suc d) (w * 2 ^ m + i) cs r)
+          (thetaVector n cap cs frame r (suc d) (w * 2 ^ m + i)) (phiVector n cap cs frame r (suc d) (w * 2 ^ m + i)))
+      kernel-sum f = tree-sum m (map4 m (λ k v y s. f k s v y) hs F G U) _ (λ p. map4-at (λ k v y s. f k s v y) p hs F G U ∙ sym (same-kernel f p))
+
+      -- their clipped entries
       pub clipped-sum : clippedNodes m cap hs F G U ≡ sumTo (2 ^ m) clips
       unfolding clippedNodes clippedEntries clippedAt loweredAt
-      clipped-sum = tree-sum m (map4 m (λ k v w s. clippedEntries cap k s v w) hs F G U) clips
-          (λ p. map4-at (λ k v w s. clippedEntries cap k s v w) p hs F G U ∙ sym (same-kernel (clippedEntries cap) p))
+      clipped-sum = kernel-sum (clippedEntries cap)
 
-      -- and what the kernels took off
+      -- and what they took off
       pub taken-sum : takenNodes m hs F G U ≡ sumTo (2 ^ m) takes
       unfolding takenNodes loweredAt
-      taken-sum = tree-sum m (map4 m (λ k v w s. lowered k s v w .taken) hs F G U) takes
-          (λ p. map4-at (λ k v w s. lowered k s v w .taken) p hs F G U ∙ sym (same-kernel (λ h u v w. lowered h u v w .taken) p))
+      taken-sum = kernel-sum (λ h u v y. lowered h u v y .taken)
 
       module _ (fits : o + (2 ^ m + 2 ^ m) ≤ 2 ^ n) where
         -- the vectors of the first half

@@ -1,6 +1,6 @@
 -- Every vector of every node holds a 0 and no entry above the cap; and with a cap that is high enough nothing is clipped.
 use mathlib.Core.Path.{_≡_, sym, ap, ap₂, _∙_, subst}
-use mathlib.Core.List.{List, []}
+use mathlib.Core.List.{List}
 use Prim.Native.Nat.{ℕ, zero, suc, _+_, _*_, _/_, _-_, _^_, _≤_, _<_}
 use native.Mathlib.Nat.{le-trans, le-of-eq, le-refl, mul-le-mul, mul-one, mul-add}
 use native.Mathlib.Omega.{arith}
@@ -13,42 +13,28 @@ use Rattle.polar.specs.Transform.{theta, phi, coefficient}
 use Rattle.polar.proofs.Kernels.{theta-lt, phi-lt}
 use Rattle.polar.proofs.Numbers.{two-pow}
 use Rattle.scms.specs.Nodes.{lowered}
-use Rattle.scms.specs.Decoder.{thetaSymbol, vectors, thetaVector, phiVector, loweredAt}
+use Rattle.scms.specs.Decoder.{thetaSymbol, thetaVector, phiVector, loweredAt}
 use Rattle.scms.specs.Totals.{EachZero, EachAtMost}
 use Rattle.scms.specs.Claims.{Fits}
 use Rattle.scms.proofs.NodeLaws.{check-zero, variable-zero, check-most, rest-most, variable-cap, variable-most}
-use Rattle.scms.proofs.VectorLaws.{coefficient-nonzero, frame-vector, theta-from, phi-from, each-vector, u-lt}
+use Rattle.scms.proofs.VectorLaws.{coefficient-nonzero, theta-from, phi-from, atPlace, each-layer, u-lt}
 
 module _ (n cap : ℕ) (cs frame s : List ℕ) (g : Coefficients cs) (z : EachZero n frame) where
   -- the vector of layer d at a place
-  abbrev at-place : ℕ → ℕ → List ℕ
-  at-place d j = getD (vectors n cap cs frame s d) j []
-
-  -- a property of the vectors of layer d
-  abbrev Each : ℕ → (List ℕ → Type 0) → Type 0
-  Each d P = (j : ℕ) → j < 2 ^ n → P (at-place d j)
+  abbrev here : ℕ → ℕ → List ℕ
+  here d j = atPlace n cap cs frame s d j
 
   -- every vector holds a 0, clipped or not
-  pub vector-zero : (d : ℕ) → d ≤ n → Each d HasZero
-  vector-zero zero l = λ j lj. subst HasZero (sym (frame-vector n cap cs frame s j lj)) (z j lj)
-  vector-zero (suc d) l = go (n - suc d) (omega arith) (vector-zero d (omega arith))
-    where
-      go : (m : ℕ) → d + suc m ≡ n → Each d HasZero → Each (suc d) HasZero
-      go m e ih = each-vector n cap cs frame s d m e (λ j v. HasZero v)
-          (λ t lt. check-zero _ _ _ (coefficient-nonzero n (suc d) t cs g)
-          (ih (theta n (suc d) t) (theta-lt n d m e t lt)) (ih (phi n (suc d) t) (phi-lt n d m e t lt)))
-          (λ t lt. variable-zero _ _ _ _ _)
+  pub vector-zero : (d : ℕ) → d ≤ n → (j : ℕ) → j < 2 ^ n → HasZero (here d j)
+  vector-zero = each-layer n cap cs frame s (λ d j v. HasZero v) z
+      (λ d m e t lt zv zw. (check-zero _ _ _ (coefficient-nonzero n (suc d) t cs g) zv zw, variable-zero _ _ _ _ _))
 
-  -- where the frame's entries are at most the cap, so is every entry of every vector: a check node never needs a cap
-  vector-cap : EachAtMost n cap frame → (d : ℕ) → d ≤ n → Each d (AtMost cap)
-  vector-cap mf zero l = λ j lj. subst (AtMost cap) (sym (frame-vector n cap cs frame s j lj)) (mf j lj)
-  vector-cap mf (suc d) l = go (n - suc d) (omega arith) (vector-cap mf d (omega arith))
-    where
-      go : (m : ℕ) → d + suc m ≡ n → Each d (AtMost cap) → Each (suc d) (AtMost cap)
-      go m e ih = each-vector n cap cs frame s d m e (λ j v. AtMost cap v)
-          (λ t lt. check-most _ _ _ _ (coefficient-nonzero n (suc d) t cs g) (ih (theta n (suc d) t) (theta-lt n d m e t lt))
-          (vector-zero d (omega arith) (phi n (suc d) t) (phi-lt n d m e t lt)))
-          (λ t lt. variable-cap _ _ _ _ _)
+  -- where the frame's entries are at most the cap, so is every entry of every vector: a check node needs no cap
+  vector-cap : EachAtMost n cap frame → (d : ℕ) → d ≤ n → (j : ℕ) → j < 2 ^ n → AtMost cap (here d j)
+  vector-cap mf d l j lj = each-layer n cap cs frame s (λ d j v. HasZero v × AtMost cap v) (λ j lj. (z j lj, mf j lj))
+      (λ d m e t lt p q.
+      let nz = coefficient-nonzero n (suc d) t cs g in
+      ((check-zero _ _ _ nz (p .0) (q .0), check-most _ _ _ _ nz (p .1) (q .0)), (variable-zero _ _ _ _ _, variable-cap _ _ _ _ _))) d l j lj .1
 
   -- both, and what follows for sums
   pub fits : EachAtMost n cap frame → Fits n cap cs frame s
@@ -71,29 +57,24 @@ module _ (n cap : ℕ) (cs frame s : List ℕ) (g : Coefficients cs) (z : EachZe
           omega arith
 
   module _ (most : ℕ) (w : IsWord n s) (mf : EachAtMost n most frame) where
-    -- the variable nodes of layer d + 1 before the cap, where the vectors of layer d are at most 2^d times the frame's bound
-    rest-bound : (d m : ℕ) → d + suc m ≡ n → Each d (AtMost (most * 2 ^ d)) → (t : ℕ) → t < 2 ^ n / 2
-        → AtMost (most * 2 ^ suc d) (lowered (coefficient n (suc d) t cs) (thetaSymbol n (suc d) t cs s)
-        (at-place d (theta n (suc d) t)) (at-place d (phi n (suc d) t)) .rest)
-    rest-bound d m e ih t lt =
-        let q : most * 2 ^ suc d ≡ most * 2 ^ d + most * 2 ^ d = ap (λ (x : ℕ). most * x) (two-pow d) ∙ mul-add most (2 ^ d) (2 ^ d) in
-        subst (λ (x : ℕ). AtMost x (lowered (coefficient n (suc d) t cs) (thetaSymbol n (suc d) t cs s)
-        (at-place d (theta n (suc d) t)) (at-place d (phi n (suc d) t)) .rest)) (sym q)
-        (rest-most _ _ _ _ _ (u-lt n cap cs frame s d m e w t lt)
-        (ih (theta n (suc d) t) (theta-lt n d m e t lt)) (ih (phi n (suc d) t) (phi-lt n d m e t lt)))
+    -- the variable nodes of layer d + 1 before the cap, where the two vectors are at most 2^d times the frame's bound
+    rest-bound : (d m : ℕ) → d + suc m ≡ n → (t : ℕ) → t < 2 ^ n / 2
+        → AtMost (most * 2 ^ d) (here d (theta n (suc d) t)) → AtMost (most * 2 ^ d) (here d (phi n (suc d) t))
+        → AtMost (most * 2 ^ suc d) (lowered (coefficient n (suc d) t cs) (thetaSymbol n (suc d) t cs s) (here d (theta n (suc d) t)) (here d (phi n (suc d) t)) .rest)
+    rest-bound d m e t lt p q =
+        let twice : most * 2 ^ suc d ≡ most * 2 ^ d + most * 2 ^ d = ap (λ (x : ℕ). most * x) (two-pow d) ∙ mul-add most (2 ^ d) (2 ^ d) in
+        subst (λ (x : ℕ). AtMost x (lowered (coefficient n (suc d) t cs) (thetaSymbol n (suc d) t cs s) (here d (theta n (suc d) t)) (here d (phi n (suc d) t)) .rest))
+        (sym twice) (rest-most _ _ _ _ _ (u-lt n cap cs frame s d m e w t lt) p q)
 
     -- the entries at most double with each layer
-    vector-most : (d : ℕ) → d ≤ n → Each d (AtMost (most * 2 ^ d))
-    vector-most zero l = λ j lj. subst (AtMost (most * 2 ^ 0)) (sym (frame-vector n cap cs frame s j lj)) (λ b lb. le-trans (mf j lj b lb) (le-of-eq (sym (mul-one most))))
-    vector-most (suc d) l = go (n - suc d) (omega arith) (vector-most d (omega arith))
-      where
-        go : (m : ℕ) → d + suc m ≡ n → Each d (AtMost (most * 2 ^ d)) → Each (suc d) (AtMost (most * 2 ^ suc d))
-        go m e ih = each-vector n cap cs frame s d m e (λ j v. AtMost (most * 2 ^ suc d) v)
-            (λ t lt b lb. le-trans
-            (check-most _ _ _ _ (coefficient-nonzero n (suc d) t cs g) (ih (theta n (suc d) t) (theta-lt n d m e t lt))
-            (vector-zero d (omega arith) (phi n (suc d) t) (phi-lt n d m e t lt)) b lb)
-            (mul-le-mul (le-refl most) (pow-mono {i = d} {j = suc d} (omega arith))))
-            (λ t lt. variable-most _ _ _ _ _ _ (rest-bound d m e ih t lt))
+    vector-most : (d : ℕ) → d ≤ n → (j : ℕ) → j < 2 ^ n → AtMost (most * 2 ^ d) (here d j)
+    vector-most d l j lj = each-layer n cap cs frame s (λ d j v. HasZero v × AtMost (most * 2 ^ d) v)
+        (λ j lj. (z j lj, λ b lb. le-trans (mf j lj b lb) (le-of-eq (sym (mul-one most)))))
+        (λ d m e t lt p q.
+        let nz = coefficient-nonzero n (suc d) t cs g in (
+          (check-zero _ _ _ nz (p .0) (q .0), λ b lb. le-trans (check-most _ _ _ _ nz (p .1) (q .0) b lb) (mul-le-mul (le-refl most) (pow-mono {i = d} {j = suc d} (omega arith)))),
+          (variable-zero _ _ _ _ _, variable-most _ _ _ _ _ _ (rest-bound d m e t lt (p .1) (q .1))),
+        )) d l j lj .1
 
     -- so with a cap of 2^n times the frame's bound no entry of a variable node exceeds it
     pub never-exceeds : most * 2 ^ n ≤ cap → (l t c : ℕ) → Within 1 n l → t < 2 ^ n / 2 → c < 64 → getD (loweredAt n cap cs frame s l t .rest) c 0 ≤ cap
@@ -101,8 +82,10 @@ module _ (n cap : ℕ) (cs frame s : List ℕ) (g : Coefficients cs) (z : EachZe
     never-exceeds hc zero t c lw lt lc = absurd (let a = lw .least in omega arith)
     never-exceeds hc (suc d) t c lw lt lc =
         let k = lw .most in
+        let m = n - suc d in
         let e : d + suc (n - suc d) ≡ n = omega arith in
+        let v = vector-most d (omega arith) in
         le-trans (le-of-eq (ap₂ (λ (x y : List ℕ). getD (lowered (coefficient n (suc d) t cs) (thetaSymbol n (suc d) t cs s) x y .rest) c 0)
         (theta-from n cap cs frame s d t) (phi-from n cap cs frame s d t)))
-        (le-trans (rest-bound d (n - suc d) e (vector-most d (omega arith)) t lt c lc)
+        (le-trans (rest-bound d m e t lt (v (theta n (suc d) t) (theta-lt n d m e t lt)) (v (phi n (suc d) t) (phi-lt n d m e t lt)) c lc)
         (le-trans (mul-le-mul (le-refl most) (pow-mono {i = suc d} {j = n} k)) hc))

@@ -18,9 +18,11 @@ use Rattle.polar.proofs.ByHalves.{block-halves, by-halves}
 use Rattle.scms.specs.Decision.{decision}
 use Rattle.scms.specs.Decoder.{vectors, loweredAt, clippedAt, clipCount, takenIn, takenOff, heldAt, held, symbols, report, count}
 use Rattle.scms.specs.Halves.{Vectors, Answer, checkNodes, variableNodes, clippedNodes, takenNodes, decodeTree, frameTree, decodeHalves, SameAnswer}
+use Rattle.scms.specs.Totals.{Unclipped}
 use Rattle.scms.proofs.TreeDecoder.{decoded-from, word-transform}
 use Rattle.scms.proofs.Blocks.{block-fits}
 use Rattle.scms.proofs.AnswerLaws.{held-final, answer-is}
+use Rattle.scms.proofs.Unclipped.{count-zero}
 use Rattle.scms.proofs.BlockSums.{clippedIn, takenFrom, taken-more, clipped-more, taken-first, taken-second, clipped-sum, taken-sum, checks, variables}
 
 -- a function of three things that are equal to three others
@@ -196,3 +198,7 @@ module _ (n cap : ℕ) (cs map frame : List ℕ) where
         ∙ ap (λ (x : List ℕ). clipCount n cap cs frame x) (sym answer);
     same-word = word-answer;
   }
+
+  -- in an unclipped frame the count by halves is 0
+  pub halves-unclipped : Unclipped n cap cs map frame → decodeHalves n cap cs map frame .count ≡ 0
+  halves-unclipped un = same-answer .same-count ∙ count-zero n cap cs map frame .unclipped-zero un

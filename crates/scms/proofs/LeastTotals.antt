@@ -13,13 +13,12 @@ use Rattle.polar.specs.Tree.{Tree, leaves, treeOf, Place, at, number}
 use Rattle.polar.specs.Halves.{coefsAt}
 use Rattle.polar.proofs.TreeLaws.{place-of, length-leaves, treeOf-at, leaves-at, leaves-number}
 use Rattle.polar.proofs.OneToOne.{coefs-nonzero}
-use Rattle.scms.specs.Decoder.{takenOff, held, symbols, count}
+use Rattle.scms.specs.Decoder.{takenOff, held, symbols}
 use Rattle.scms.specs.Totals.{Least, Begins, LeastTotal, EachZero, Unclipped}
 use Rattle.scms.specs.Claims.{heldAndTaken, LeastTotals}
 use Rattle.scms.specs.Halves.{Answer, frameTree, decodeHalves}
-use Rattle.scms.proofs.Unclipped.{count-zero}
 use Rattle.scms.proofs.Decisions.{held-zero}
-use Rattle.scms.proofs.ByHalves.{same-answer}
+use Rattle.scms.proofs.ByHalves.{same-answer, halves-unclipped}
 use Rattle.scms.proofs.TreeTotals.{llrAt}
 use Rattle.scms.proofs.Exact.{sentTotal, Words, BeginsAt, exact}
 use Rattle.scms.proofs.TreeLists.{begins-by, begins-there, begins-before, row-by, row-symbols, row-last, word-leaves, tree-word, sent-tree, sent-leaves}
@@ -96,14 +95,13 @@ module _ (n cap : ℕ) (cs map frame : List ℕ) (g : Coefficients cs) (z : Each
   row-least i b l lb =
       let same = same-answer n cap cs map frame in
       let p = place-of n i l .0 in
-      let none : A .count ≡ 0 = same .same-count ∙ count-zero n cap cs map frame .unclipped-zero un in
       let t : llrAt (at (A .held) p) b + at (A .taken) p ≡ heldAndTaken n cap cs map frame i b
       = ap₂ (λ (v : List ℕ) (x : ℕ). getD v b 0 + x) (sym (leaves-number [] n i l (A .held)) ∙ same .same-held i l)
       (sym (leaves-number 0 n i l (A .taken)) ∙ same .same-taken i l) in
       subst (λ (x : List ℕ). LeastTotal n cs frame (take i x ++ (b ∷ [])) (heldAndTaken n cap cs map frame i b)) (same .same-symbols)
       (subst (LeastTotal n cs frame (take i (leaves n (A .symbols)) ++ (b ∷ []))) t
       (least-lists n cs frame (A .symbols) i b l (llrAt (at (A .held) p) b + at (A .taken) p)
-      (exact p cap (coefsAt n 0 (2 ^ n / 2) cs) (treeOf 0 n map) (frameTree n frame) (coefs-nonzero n 0 (2 ^ n / 2) cs g) none b lb)))
+      (exact p cap (coefsAt n 0 (2 ^ n / 2) cs) (treeOf 0 n map) (frameTree n frame) (coefs-nonzero n 0 (2 ^ n / 2) cs g) (halves-unclipped n cap cs map frame un) b lb)))
 
   -- what is held, less the least
   pub least-totals : (i : ℕ) → i < 2 ^ n → LeastTotals n cap cs map frame i

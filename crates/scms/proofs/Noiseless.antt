@@ -1,22 +1,22 @@
 -- Each vector of the frame is 0 at the symbol sent and nowhere else: the decoder answers the word before the transform, clipped or not.
 use mathlib.Core.Path.{_≡_, sym, ap, _∙_, subst}
 use mathlib.Core.List.{List, []}
-use Prim.Native.Nat.{ℕ, zero, suc, _+_, _/_, _-_, _^_, _≤_, _<_}
+use Prim.Native.Nat.{ℕ, suc, _+_, _/_, _-_, _^_, _≤_, _<_}
 use native.Mathlib.Nat.{le-refl}
 use native.Mathlib.Omega.{arith}
 use lib.ListN.{length, getD}
 use Rattle.vector.specs.Vector.{vectorAt, OnlyZero}
-use Rattle.gf64.specs.Field.{_⊕_, _⊙_}
 use Rattle.polar.specs.Code.{kindOf, Coefficients, IsWord}
 use Rattle.polar.specs.Transform.{theta, phi, coefficient, layer, layers, transform, Turned}
 use Rattle.polar.proofs.Kernels.{theta-lt, phi-lt}
 use Rattle.polar.proofs.LayerLaws.{layer-turned, layers-word}
+use Rattle.scms.specs.Nodes.{checkNode, variableNode}
 use Rattle.scms.specs.Decoder.{thetaSymbol, vectors, heldAt, symbols}
 use Rattle.scms.specs.Totals.{InCode}
 use Rattle.scms.specs.Claims.{Sent, Noiseless}
 use Rattle.scms.proofs.NodeLaws.{check-only, variable-only}
 use Rattle.scms.proofs.DecisionLaws.{decision-only}
-use Rattle.scms.proofs.VectorLaws.{coefficient-nonzero, frame-vector, each-vector}
+use Rattle.scms.proofs.VectorLaws.{coefficient-nonzero, each-layer}
 use Rattle.scms.proofs.AnswerLaws.{answer-is}
 
 module _ (n cap : ℕ) (cs map frame u : List ℕ) (hc : 1 ≤ cap) (g : Coefficients cs) (c : InCode n map u) (sent : Sent n frame (transform n cs u)) where
@@ -41,38 +41,39 @@ module _ (n cap : ℕ) (cs map frame u : List ℕ) (hc : 1 ≤ cap) (g : Coeffic
       (subst (λ (y : List ℕ). Turned n (suc d) t cs (layers n m cs u) y) (sym q)
       (layer-turned n d m e cs (layers n m cs u) (subst (λ (k : ℕ). length (layers n k cs u) ≡ 2 ^ n) b (layers-word n (n - suc d) cs u w .long)) t lt))
 
+  -- kernel t of layer d + 1: both its nodes are 0 at the word's symbols alone, if the two vectors that they are made from are
+  module _ (d m : ℕ) (e : d + suc m ≡ n) (t : ℕ) (lt : t < 2 ^ n / 2) where
+    -- its coefficient
+    abbrev h : ℕ
+    h = coefficient n (suc d) t cs
+
+    -- the word's symbol at θ
+    abbrev p : ℕ
+    p = getD (x (suc d)) (theta n (suc d) t) 0
+
+    -- and at φ
+    abbrev r : ℕ
+    r = getD (x (suc d)) (phi n (suc d) t) 0
+
+    -- from the two vectors
+    kernel-only : (v y : List ℕ) → OnlyZero v (getD (x d) (theta n (suc d) t) 0) → OnlyZero y (getD (x d) (phi n (suc d) t) 0)
+        → OnlyZero (checkNode h v y) p × OnlyZero (variableNode cap h p v y) r
+    kernel-only v y ov oy =
+        let made = turned d m e t lt in
+        let nz = coefficient-nonzero n (suc d) t cs g in
+        let word = layers-word n (n - suc d) cs u w in
+        let lp = word .symbols (theta n (suc d) t) (theta-lt n d m e t lt) in
+        let lr = word .symbols (phi n (suc d) t) (phi-lt n d m e t lt) in
+        let a = subst (OnlyZero v) (made .sum) ov in
+        let b = subst (OnlyZero y) (made .scaled) oy in
+        (check-only h v y p r nz lp lr a b, variable-only h v y p r nz lp lr a b cap hc)
+
   -- each vector of layer d is 0 at the symbol of the word there, and nowhere else
   only-zero : (d : ℕ) → d ≤ n → (j : ℕ) → j < 2 ^ n → OnlyZero (getD (vectors n cap cs frame u d) j []) (getD (x d) j 0)
   unfolding thetaSymbol transform
-  only-zero zero l = λ j lj.
-      let z : n - 0 ≡ n = omega arith in
-      subst (λ (v : List ℕ). OnlyZero v (getD (layers n (n - 0) cs u) j 0)) (sym (frame-vector n cap cs frame u j lj))
-      (subst (λ (k : ℕ). OnlyZero (vectorAt frame j) (getD (layers n k cs u) j 0)) (sym z) (sent j lj))
-  only-zero (suc d) l = go (n - suc d) (omega arith) (only-zero d (omega arith))
-    where
-      go : (m : ℕ) → d + suc m ≡ n → ((j : ℕ) → j < 2 ^ n → OnlyZero (getD (vectors n cap cs frame u d) j []) (getD (x d) j 0))
-          → (j : ℕ) → j < 2 ^ n → OnlyZero (getD (vectors n cap cs frame u (suc d)) j []) (getD (x (suc d)) j 0)
-      go m e ih = each-vector n cap cs frame u d m e (λ j v. OnlyZero v (getD (x (suc d)) j 0))
-          (λ t lt. check-only (coefficient n (suc d) t cs) _ _ (p t) (r t) (coefficient-nonzero n (suc d) t cs g) (p-lt t lt) (r-lt t lt) (at-θ t lt) (at-φ t lt))
-          (λ t lt. variable-only (coefficient n (suc d) t cs) _ _ (p t) (r t) (coefficient-nonzero n (suc d) t cs g) (p-lt t lt) (r-lt t lt) (at-θ t lt) (at-φ t lt) cap hc)
-        where
-          p : ℕ → ℕ
-          p t = getD (x (suc d)) (theta n (suc d) t) 0
-
-          r : ℕ → ℕ
-          r t = getD (x (suc d)) (phi n (suc d) t) 0
-
-          p-lt : (t : ℕ) → t < 2 ^ n / 2 → p t < 64
-          p-lt t lt = layers-word n (n - suc d) cs u w .symbols (theta n (suc d) t) (theta-lt n d m e t lt)
-
-          r-lt : (t : ℕ) → t < 2 ^ n / 2 → r t < 64
-          r-lt t lt = layers-word n (n - suc d) cs u w .symbols (phi n (suc d) t) (phi-lt n d m e t lt)
-
-          at-θ : (t : ℕ) → t < 2 ^ n / 2 → OnlyZero (getD (vectors n cap cs frame u d) (theta n (suc d) t) []) (p t ⊕ r t)
-          at-θ t lt = subst (OnlyZero (getD (vectors n cap cs frame u d) (theta n (suc d) t) [])) (turned d m e t lt .sum) (ih (theta n (suc d) t) (theta-lt n d m e t lt))
-
-          at-φ : (t : ℕ) → t < 2 ^ n / 2 → OnlyZero (getD (vectors n cap cs frame u d) (phi n (suc d) t) []) (coefficient n (suc d) t cs ⊙ r t)
-          at-φ t lt = subst (OnlyZero (getD (vectors n cap cs frame u d) (phi n (suc d) t) [])) (turned d m e t lt .scaled) (ih (phi n (suc d) t) (phi-lt n d m e t lt))
+  only-zero = each-layer n cap cs frame u (λ d j v. OnlyZero v (getD (x d) j 0))
+      (λ j lj. let z : n - 0 ≡ n = omega arith in subst (λ (k : ℕ). OnlyZero (vectorAt frame j) (getD (layers n k cs u) j 0)) (sym z) (sent j lj))
+      (λ d m e t lt. kernel-only d m e t lt _ _)
 
   -- so each symbol of the word is decided from what is held with it
   decided-so : symbols n cap cs map frame ≡ u

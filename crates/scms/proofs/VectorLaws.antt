@@ -1,5 +1,5 @@
 -- The vectors of each layer, kernel by kernel, from those of the layer before.
-use mathlib.Core.Path.{_≡_, sym, ap, ap₂, _∙_}
+use mathlib.Core.Path.{_≡_, sym, ap, ap₂, _∙_, subst}
 use mathlib.Core.List.{List, []}
 use Prim.Native.Nat.{ℕ, zero, suc, _+_, _*_, _/_, _-_, _^_, _≤_, _<_}
 use native.Mathlib.Numerals.{add-one}
@@ -11,7 +11,7 @@ use Rattle.vector.proofs.Laws.{length-tabulate, getD-tabulate}
 use Rattle.gf64.specs.Field.{NonZero}
 use Rattle.polar.specs.Code.{Coefficients, IsWord}
 use Rattle.polar.specs.Transform.{theta, phi, coefficient}
-use Rattle.polar.proofs.Kernels.{theta-lt}
+use Rattle.polar.proofs.Kernels.{theta-lt, phi-lt}
 use Rattle.polar.proofs.LayerLaws.{at-layer-long, layer-made, each-place, layers-word}
 use Rattle.polar.proofs.OneToOne.{coef-nonzero}
 use Rattle.scms.specs.Nodes.{checkNode, clipped, lowered, variableNode}
@@ -50,36 +50,47 @@ module _ (n cap : ℕ) (cs frame s : List ℕ) where
   unfolding phiVector
   phi-from d t = let e : suc d - 1 ≡ d = omega arith in ap (λ (i : ℕ). getD (vectors n cap cs frame s i) (phi n (suc d) t) []) e
 
-  module _ (d m : ℕ) (e : d + suc m ≡ n) where
-    -- the coefficient of kernel t of layer d + 1
-    abbrev h : ℕ → ℕ
-    h t = coefficient n (suc d) t cs
+  -- the vector of layer d at a place
+  abbrev pub atPlace : (d j : ℕ) → List ℕ
+  atPlace d j = getD (vectors n cap cs frame s d) j []
 
-    -- θ's symbol
-    abbrev u : ℕ → ℕ
-    u t = thetaSymbol n (suc d) t cs s
+  -- the check node of kernel t of layer d + 1
+  abbrev pub checkAt : (d t : ℕ) → List ℕ
+  checkAt d t = checkNode (coefficient n (suc d) t cs) (atPlace d (theta n (suc d) t)) (atPlace d (phi n (suc d) t))
 
-    -- θ's vector
-    abbrev v : ℕ → List ℕ
-    v t = getD (vectors n cap cs frame s d) (theta n (suc d) t) []
+  -- and its variable node
+  abbrev pub variableAt : (d t : ℕ) → List ℕ
+  variableAt d t = variableNode cap (coefficient n (suc d) t cs) (thetaSymbol n (suc d) t cs s) (atPlace d (theta n (suc d) t)) (atPlace d (phi n (suc d) t))
 
-    -- φ's vector
-    abbrev w : ℕ → List ℕ
-    w t = getD (vectors n cap cs frame s d) (phi n (suc d) t) []
+  -- what holds of the check node and of the variable node of each kernel of layer d + 1 holds of the vector at every place
+  each-vector : (d m : ℕ) → d + suc m ≡ n → (Q : ℕ → List ℕ → Type 0)
+      → ((t : ℕ) → t < 2 ^ n / 2 → Q (theta n (suc d) t) (checkAt d t))
+      → ((t : ℕ) → t < 2 ^ n / 2 → Q (phi n (suc d) t) (variableAt d t))
+      → (j : ℕ) → j < 2 ^ n → Q j (atPlace (suc d) j)
+  unfolding vectors nodes
+  each-vector d m e Q a b =
+      each-place [] n d m e (λ t x y. checkNode (coefficient n (suc d) t cs) x y)
+      (λ t x y. variableNode cap (coefficient n (suc d) t cs) (thetaSymbol n (suc d) t cs s) x y) (vectors n cap cs frame s d) (vectors-long d) Q a b
 
-    -- what holds of the check node and of the variable node of each kernel holds of the vector at every place
-    pub each-vector : (Q : ℕ → List ℕ → Type 0)
-        → ((t : ℕ) → t < 2 ^ n / 2 → Q (theta n (suc d) t) (checkNode (h t) (v t) (w t)))
-        → ((t : ℕ) → t < 2 ^ n / 2 → Q (phi n (suc d) t) (variableNode cap (h t) (u t) (v t) (w t)))
-        → (j : ℕ) → j < 2 ^ n → Q j (getD (vectors n cap cs frame s (suc d)) j [])
-    unfolding vectors nodes
-    each-vector Q a b =
-        each-place [] n d m e (λ t x y. checkNode (h t) x y) (λ t x y. variableNode cap (h t) (u t) x y) (vectors n cap cs frame s d) (vectors-long d) Q a b
+  -- what holds of the frame's vectors, and of both nodes of a kernel where it holds of the two vectors that they are made from, holds of every
+  -- vector of every layer
+  pub each-layer : (P : ℕ → ℕ → List ℕ → Type 0) → ((j : ℕ) → j < 2 ^ n → P 0 j (vectorAt frame j))
+      → ((d m : ℕ) → d + suc m ≡ n → (t : ℕ) → t < 2 ^ n / 2 → P d (theta n (suc d) t) (atPlace d (theta n (suc d) t)) → P d (phi n (suc d) t) (atPlace d (phi n (suc d) t))
+      → P (suc d) (theta n (suc d) t) (checkAt d t) × P (suc d) (phi n (suc d) t) (variableAt d t))
+      → (d : ℕ) → d ≤ n → (j : ℕ) → j < 2 ^ n → P d j (atPlace d j)
+  each-layer P base step zero l = λ j lj. subst (P 0 j) (sym (frame-vector j lj)) (base j lj)
+  each-layer P base step (suc d) l = go (n - suc d) (omega arith) (each-layer P base step d (omega arith))
+    where
+      go : (m : ℕ) → d + suc m ≡ n → ((j : ℕ) → j < 2 ^ n → P d j (atPlace d j)) → (j : ℕ) → j < 2 ^ n → P (suc d) j (atPlace (suc d) j)
+      go m e ih = each-vector d m e (P (suc d)) (λ t lt. both t lt .0) (λ t lt. both t lt .1)
+        where
+          both : (t : ℕ) → t < 2 ^ n / 2 → P (suc d) (theta n (suc d) t) (checkAt d t) × P (suc d) (phi n (suc d) t) (variableAt d t)
+          both t lt = step d m e t lt (ih (theta n (suc d) t) (theta-lt n d m e t lt)) (ih (phi n (suc d) t) (phi-lt n d m e t lt))
 
-    -- u is a symbol
-    pub u-lt : IsWord n s → (t : ℕ) → t < 2 ^ n / 2 → u t < 64
-    unfolding thetaSymbol
-    u-lt iw t l = layers-word n _ cs s iw .symbols (theta n (suc d) t) (theta-lt n d m e t l)
+  -- u is a symbol
+  pub u-lt : (d m : ℕ) → d + suc m ≡ n → IsWord n s → (t : ℕ) → t < 2 ^ n / 2 → thetaSymbol n (suc d) t cs s < 64
+  unfolding thetaSymbol
+  u-lt d m e iw t l = layers-word n _ cs s iw .symbols (theta n (suc d) t) (theta-lt n d m e t l)
 
 -- the update rule holds at every kernel of every layer
 pub update-rule : (n cap : ℕ) (cs frame s : List ℕ) (l t : ℕ) → Within 1 n l → t < 2 ^ n / 2 → UpdateRule n cap cs frame s l t
