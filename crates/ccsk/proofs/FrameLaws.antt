@@ -8,9 +8,10 @@ use lib.IntN.{ℤ}
 use lib.ListN.{length, getD, take, drop, length-append, length-drop}
 use lib.Seq.{take-all, take-at, length-take-le, take-append-add, getD-take, getD-drop}
 use Rattle.vector.specs.Vector.{vectorAt, joined, HasZero}
+use Rattle.vector.specs.Frame.{IsFrame}
 use Rattle.vector.proofs.Laws.{length-joined, joined-part}
 use Rattle.ccsk.specs.Samples.{llrs}
-use Rattle.ccsk.specs.Demap.{frameOf, IsFrame}
+use Rattle.ccsk.specs.Demap.{frameOf}
 use Rattle.ccsk.specs.Part.{placeLlrs}
 use Rattle.ccsk.specs.Parts.{chipsTwice, llrsBy, stored}
 use Rattle.ccsk.proofs.LlrLaws.{length-llrs, stored-llrs, by-base, llr-small, llr-zero}

@@ -1,15 +1,15 @@
 -- What `demap` promises.
-use Prim.Native.Nat.{ℕ, _+_, _*_, _/_, _%_, _-_, _^_, _≤_, _<_}
+use Prim.Native.Nat.{ℕ, _/_, _%_}
 use mathlib.Core.Path.{_≡_}
 use mathlib.Core.Bool.{cond}
 use mathlib.Core.List.{List, [], _∷_}
 use lib.Dec.{eqb}
 use lib.IntN.{ℤ}
-use lib.ListN.{length, getD}
+use lib.ListN.{length}
 use Rattle.refusal.specs.Table.{Row, refusalOf}
 use Rattle.refusal.specs.Tests.{outside, unequal, Within}
-use Rattle.refusal.specs.Rows.{lengthRow}
-use Rattle.vector.specs.Vector.{vectorAt, joined, HasZero}
+use Rattle.refusal.specs.Rows.{lengthRow, qcRow}
+use Rattle.vector.specs.Vector.{vectorAt, joined}
 use Rattle.ccsk.specs.Chips.{turned, countRow, baseRow}
 use Rattle.ccsk.specs.Samples.{llrs}
 
@@ -20,10 +20,6 @@ frameOf base top bottom qc samples = joined (length samples / 64) (λ i. llrs ba
 -- 2: samples that are not 64 to a symbol
 abbrev pub wholeRow : ℕ → Row
 wholeRow count = (2, unequal (count % 64) 0)
-
--- 3: Qc outside 1 to 5 (a call with no Qm)
-abbrev pub qcRow : ℕ → Row
-qcRow qc = (3, outside 1 5 qc)
 
 -- 11: top or bottom of the gain is 0 or above 255
 abbrev pub gainRow : ℕ → Row
@@ -64,8 +60,3 @@ demapBuffer base top bottom qc samples buffer =
 pub record Demapped (base top bottom qc : ℕ) (samples : List ℤ) (buffer after : List ℕ) (r : ℕ) : Type 0 where
   pub answer : r ≡ demapRefusal base top bottom qc samples buffer
   pub frame : after ≡ demapBuffer base top bottom qc samples buffer
-
--- a frame of penalties at this Qc: no entry above 2^Qc − 1, and a 0 in every 64
-pub record IsFrame (qc : ℕ) (frame : List ℕ) : Type 0 where
-  pub small : (j : ℕ) → j < length frame → getD frame j 0 ≤ 2 ^ qc - 1
-  pub zeros : (place : ℕ) → place < length frame / 64 → HasZero (vectorAt frame place)

@@ -1,10 +1,18 @@
 -- What the functions inside this crate are given, and what they leave. No public call asks any of this.
-use Prim.Native.Nat.{ℕ, _≤_}
+use Prim.Native.Nat.{ℕ, _+_, _*_, _/_, _^_, _≤_, _<_}
 use mathlib.Core.Path.{_≡_}
-use mathlib.Core.List.{List}
-use lib.ListN.{length}
-use Rattle.vector.specs.Vector.{AtMost}
-use Rattle.scms.specs.Nodes.{variableNode, clippedEntries}
+use mathlib.Core.List.{List, [], _∷_, _++_}
+use lib.ListN.{length, getD}
+use Rattle.vector.specs.Vector.{tabulate, vectorAt, sumTo, HasZero, AtMost}
+use Rattle.polar.specs.Code.{kindOf, Coefficients}
+use Rattle.polar.specs.Tree.{leaves, treeOf}
+use Rattle.polar.specs.Halves.{coefsAt}
+use Rattle.polar.specs.Parts.{Block}
+use Rattle.scms.specs.Nodes.{checkNode, variableNode, clippedEntries}
+use Rattle.scms.specs.Decision.{decision}
+use Rattle.scms.specs.Halves.{Vectors, BlockAnswer, decodeTree}
+
+-- ---- one node
 
 -- what a node is given: a vector of 64 penalties, none above 8,191, the largest cap, so that the sum of two fits in 16 bits
 pub record Small (v : List ℕ) : Type 0 where
@@ -16,3 +24,116 @@ pub record IsVariableNode (cap h u : ℕ) (theta phi llrs : List ℕ) (count : �
   pub llrs-are : llrs ≡ variableNode cap h u theta phi
   pub count-is : count ≡ clippedEntries cap h u theta phi
   pub few : count ≤ 64
+
+-- ---- the vectors of the frame and after them those of the work buffer, numbered from 0 on. A block's vectors are 2^m of them from number `at`
+-- on; those of its halves, one layer on, come after them.
+
+-- the first vectors of a list are as they were
+abbrev pub Kept : (count : ℕ) (before after : List ℕ) → Type 0
+Kept count before after = (i : ℕ) → i < count → vectorAt after i ≡ vectorAt before i
+
+-- ---- the nodes of the kernels that join two halves of a block: kernel t has the block's places t and half + t, and coefficient start + t
+
+-- what they are given
+pub record KernelsGiven (at half start : ℕ) (cs frame work : List ℕ) : Type 0 where
+  pub few : half ≤ 128
+  pub few-coefs : length cs ≤ 1024
+  pub room : start + half ≤ length cs
+  pub whole : length frame ≡ 64 * (length frame / 64)
+  pub in-work : length frame / 64 ≤ at + (half + half)
+  pub long : 64 * (at + (half + half) + half) ≤ length frame + length work
+  pub most : (i : ℕ) → i < half + half → AtMost 8191 (vectorAt (frame ++ work) (at + i))
+
+-- the check nodes of the first `count` kernels, made from one list, stand in another after the block's vectors
+abbrev pub AreCheckNodes : (count at half start : ℕ) (cs source target : List ℕ) → Type 0
+AreCheckNodes count at half start cs source target =
+    (t : ℕ) → t < count
+    → vectorAt target (at + (half + half) + t) ≡ checkNode (getD cs (start + t) 1) (vectorAt source (at + t)) (vectorAt source (at + (half + t)))
+
+-- what `check_nodes` leaves, of the work buffer before and after it
+pub record CheckNodesWritten (at half start : ℕ) (cs frame work after : List ℕ) : Type 0 where
+  pub kept : Kept (at + (half + half)) (frame ++ work) (frame ++ after)
+  pub nodes : AreCheckNodes half at half start cs (frame ++ work) (frame ++ after)
+
+-- the symbols of the first half that variable nodes are given
+pub record FirstSymbols (half : ℕ) (word : List ℕ) : Type 0 where
+  pub enough : half ≤ length word
+  pub symbols : (t : ℕ) → t < half → getD word t 0 < 64
+
+-- the variable nodes of the first `count` kernels, as the check nodes above
+abbrev pub AreVariableNodes : (count at half start cap : ℕ) (cs word source target : List ℕ) → Type 0
+AreVariableNodes count at half start cap cs word source target =
+    (t : ℕ) → t < count
+    → vectorAt target (at + (half + half) + t)
+    ≡ variableNode cap (getD cs (start + t) 1) (getD word t 0) (vectorAt source (at + t)) (vectorAt source (at + (half + t)))
+
+-- and their count of clipped entries
+abbrev pub clippedTo : (count at half start cap : ℕ) (cs word source : List ℕ) → ℕ
+clippedTo count at half start cap cs word source =
+    sumTo count (λ t. clippedEntries cap (getD cs (start + t) 1) (getD word t 0) (vectorAt source (at + t)) (vectorAt source (at + (half + t))))
+
+-- what `variable_nodes` leaves
+pub record VariableNodesWritten (at half start cap : ℕ) (cs word frame work after : List ℕ) (count : ℕ) : Type 0 where
+  pub kept : Kept (at + (half + half)) (frame ++ work) (frame ++ after)
+  pub nodes : AreVariableNodes half at half start cap cs word (frame ++ work) (frame ++ after)
+  pub count-is : count ≡ clippedTo half at half start cap cs word (frame ++ work)
+  pub few : count ≤ 64 * half
+
+-- ---- one place, whose vector is number `at`
+
+-- what `decode_place` is given
+pub record OnePlace (at : ℕ) (map frame work word symbols report : List ℕ) : Type 0 where
+  pub map-long : length map ≡ 1
+  pub word-long : length word ≡ 1
+  pub symbols-long : length symbols ≡ 1
+  pub report-long : length report ≡ 64
+  pub whole : length frame ≡ 64 * (length frame / 64)
+  pub long : 64 * (at + 1) ≤ length frame + length work
+
+-- and what it leaves: the symbol decided from the place's vector, which is reported
+pub record PlaceDecoded (at : ℕ) (map frame work word symbols report : List ℕ) : Type 0 where
+  pub word-is : word ≡ decision (kindOf (getD map 0 0)) (vectorAt (frame ++ work) at) ∷ []
+  pub symbols-are : symbols ≡ decision (kindOf (getD map 0 0)) (vectorAt (frame ++ work) at) ∷ []
+  pub report-is : vectorAt report 0 ≡ vectorAt (frame ++ work) at
+
+-- ---- a block of 2^m places
+
+-- a vector that a block is given: no entry above 8,191, and one that is 0, so that no entry of a check node is above that number either
+pub record BlockVector (v : List ℕ) : Type 0 where
+  pub most : AtMost 8191 v
+  pub zero : HasZero v
+
+-- what `decode_block` is given
+pub record BlockGiven (m start cap at : ℕ) (cs map frame work word symbols report : List ℕ) : Type 0 where
+  pub block : Block m (length map / 2) start (length frame / 128) cs word
+  pub cap-small : cap ≤ 8191
+  pub coefs : Coefficients cs
+  pub map-long : length map ≡ 2 ^ m
+  pub symbols-long : length symbols ≡ 2 ^ m
+  pub report-long : length report ≡ 64 * 2 ^ m
+  pub whole : length frame ≡ 64 * (length frame / 64)
+  pub in-work : length frame / 64 ≤ at + 2 ^ m
+  pub few-vectors : at + (2 ^ m + 2 ^ m) ≤ 512
+  pub long : 64 * (at + (2 ^ m + 2 ^ m)) ≤ length frame + length work + 64
+  pub vectors : (i : ℕ) → i < 2 ^ m → BlockVector (vectorAt (frame ++ work) (at + i))
+
+-- a block's vectors, as a tree
+unfoldable pub vectorsFrom : (m at : ℕ) → List ℕ → Vectors m
+vectorsFrom m at source = treeOf [] m (tabulate (2 ^ m) (λ i. vectorAt source (at + i)))
+
+-- a block's answer, from its vectors
+abbrev pub blockAnswer : (m start stride cap : ℕ) (cs map : List ℕ) → Vectors m → BlockAnswer m
+blockAnswer m start stride cap cs map f = decodeTree m cap (coefsAt m start stride cs) (treeOf 0 m map) f
+
+-- what is left of it in the buffers
+pub record BlockDecoded (m start stride cap : ℕ) (cs map : List ℕ) (f : Vectors m) (word symbols report : List ℕ) (count : ℕ) : Type 0 where
+  pub word-is : word ≡ leaves m (blockAnswer m start stride cap cs map f .word)
+  pub symbols-are : symbols ≡ leaves m (blockAnswer m start stride cap cs map f .symbols)
+  pub report-is : vectorsFrom m 0 report ≡ blockAnswer m start stride cap cs map f .held
+  pub count-is : count ≡ blockAnswer m start stride cap cs map f .count
+  pub few : count ≤ 64 * (m * 2 ^ m)
+
+-- what `decode_block` leaves: that answer, and the block's own vectors and all before them as they were
+pub record WorkDecoded (m start cap at : ℕ) (cs map frame work after word symbols report : List ℕ) (count : ℕ) : Type 0 where
+  pub decoded : BlockDecoded m start (length frame / 128) cap cs map (vectorsFrom m at (frame ++ work)) word symbols report count
+  pub kept : Kept (at + 2 ^ m) (frame ++ work) (frame ++ after)

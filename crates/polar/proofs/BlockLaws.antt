@@ -10,9 +10,10 @@ use lib.Seq.{take-all, take-at, drop-at, length-take-le, getD-take, getD-drop, g
 use Rattle.gf64.specs.Field.{_⊕_, _⊙_}
 use Rattle.polar.specs.Tree.{Tree, leaves, treeOf, Place, first, second, at, number}
 use Rattle.polar.specs.Halves.{join, transformTree, coefsAt, blockTransform}
-use Rattle.polar.specs.Parts.{Room, Block, Halves, Joined}
+use Rattle.polar.specs.Parts.{Room, Block}
+use Rattle.polar.specs.Join.{Halves, Joined}
 use Rattle.polar.proofs.Numbers.{two-pow, half-pow}
-use Rattle.polar.proofs.TreeLaws.{number-lt, map2-at, treeOf-at, leaves-at, leaves-by, leaves-treeOf}
+use Rattle.polar.proofs.TreeLaws.{number-lt, map2-at, treeOf-at, length-leaves, leaves-at, leaves-by, leaves-treeOf}
 
 -- ---- a list, a part of which is lent from place h on to its end
 
@@ -25,17 +26,18 @@ abbrev pub put : ℕ → List ℕ → List ℕ → List ℕ
 put h xs ys = take h xs ++ (ys ++ drop (length xs - h) (drop h xs))
 
 -- the part lent is all from place h on
-tail-drop : (h : ℕ) (xs : List ℕ) → tail h xs ≡ drop h xs
+pub tail-drop : (h : ℕ) (xs : List ℕ) → tail h xs ≡ drop h xs
 tail-drop h xs = take-all (length xs - h) (drop h xs) (le-of-eq (length-drop h xs))
 
 -- the whole is what was kept and then the part
-put-append : (h : ℕ) (xs ys : List ℕ) → put h xs ys ≡ take h xs ++ ys
+pub put-append : (h : ℕ) (xs ys : List ℕ) → put h xs ys ≡ take h xs ++ ys
 put-append h xs ys =
     ap (λ (l : List ℕ). take h xs ++ l)
     (ap (λ (l : List ℕ). ys ++ l) (drop-of-length-le (drop h xs) (le-of-eq (length-drop h xs))) ∙ append-nil ys)
 
 module _ (h : ℕ) (word a : List ℕ) (la : length a ≡ length (take h word)) (l : h ≤ length word) where
-  front-long : length a ≡ h
+  -- the first half is as long as the place where the second begins
+  pub front-long : length a ≡ h
   front-long = la ∙ length-take-le h word l
 
   -- the whole keeps its length when the first half is back
@@ -43,11 +45,11 @@ module _ (h : ℕ) (word a : List ℕ) (la : length a ≡ length (take h word)) 
   lent-long = let e = front-long in length-append a (drop h word) ∙ ap₂ (λ (x y : ℕ). x + y) front-long (length-drop h word) ∙ omega arith
 
   -- the first half written, the second half is what it was
-  lent-tail : tail h (a ++ drop h word) ≡ drop h word
+  pub lent-tail : tail h (a ++ drop h word) ≡ drop h word
   lent-tail = tail-drop h (a ++ drop h word) ∙ drop-at a (drop h word) h front-long
 
   -- both halves written
-  lent-both : (b : List ℕ) → put h (a ++ drop h word) b ≡ a ++ b
+  pub lent-both : (b : List ℕ) → put h (a ++ drop h word) b ≡ a ++ b
   lent-both b = put-append h (a ++ drop h word) b ∙ ap (λ (x : List ℕ). x ++ b) (take-at a (drop h word) h front-long)
 
   -- and when the second is
@@ -56,6 +58,40 @@ module _ (h : ℕ) (word a : List ℕ) (la : length a ≡ length (take h word)) 
       let e = front-long in
       let f = lb ∙ ap length lent-tail ∙ length-drop h word in
       ap length (lent-both b) ∙ length-append a b ∙ omega arith
+
+-- ---- two halves joined
+
+-- the coefficient of a kernel, by the number of its place
+pub coef-at : (p start : ℕ) (cs : List ℕ) (q : Place p) → getD cs (start + number q) 1 ≡ at (treeOf 1 p (take (2 ^ p) (drop start cs))) q
+coef-at p start cs q =
+    sym (treeOf-at 1 (take (2 ^ p) (drop start cs)) q ∙ getD-take (2 ^ p) (drop start cs) (number q) 1 (number-lt q) ∙ getD-drop start cs (number q) 1)
+
+module _ (p start : ℕ) (cs a b after : List ℕ) (A B : Tree ℕ p) (ea : a ≡ leaves p A) (eb : b ≡ leaves p B) where
+  -- an entry of the first half
+  first-at : (q : Place p) → getD (a ++ b) (number q) 0 ≡ at A q
+  first-at q =
+      List·getD-append a b 0 (number q) (let l = number-lt q in let e = ap length ea ∙ length-leaves ℕ p A in omega arith)
+      ∙ ap (λ (x : List ℕ). getD x (number q) 0) ea ∙ leaves-at 0 q A
+
+  -- and of the second
+  second-at : (q : Place p) → getD (a ++ b) (2 ^ p + number q) 0 ≡ at B q
+  second-at q =
+      ap (λ (x : ℕ). getD (a ++ b) (x + number q) 0) (sym (ap length ea ∙ length-leaves ℕ p A)) ∙ getD-append-add a b (number q) 0
+      ∙ ap (λ (x : List ℕ). getD x (number q) 0) eb ∙ leaves-at 0 q B
+
+  -- the coefficients of the kernels between them
+  abbrev H : Tree ℕ p
+  H = treeOf 1 p (take (2 ^ p) (drop start cs))
+
+  module _ (long : length after ≡ 2 ^ suc p) (j : Joined (2 ^ p) start cs (a ++ b) after) where
+    joined-at : (q : Place (suc p)) → getD after (number q) 0 ≡ at (join p H A B) q
+    unfolding join at number
+    joined-at (first q) = j .sums (number q) (number-lt q) ∙ ap₂ _⊕_ (first-at q) (second-at q) ∙ sym (map2-at _⊕_ q A B)
+    joined-at (second q) = j .products (number q) (number-lt q) ∙ ap₂ _⊙_ (coef-at p start cs q) (second-at q) ∙ sym (map2-at _⊙_ q H B)
+
+    -- two halves that are the leaves of two trees, joined: the leaves of the joined tree
+    pub joined-leaves : after ≡ leaves (suc p) (join p (treeOf 1 p (take (2 ^ p) (drop start cs))) A B)
+    joined-leaves = leaves-by 0 (suc p) after (join p H A B) long joined-at
 
 -- ---- the step at p + 1 layers, whose halves have 2^p places
 
@@ -127,39 +163,16 @@ module _ (p start stride : ℕ) (cs word : List ℕ) (given : Block (suc p) (2 ^
         b-leaves =
             eb ∙ ap (λ (x : List ℕ). leaves p (transformTree p (coefsAt p (start + stride + 2 ^ p / 2) stride cs) (treeOf 0 p x))) (lent-tail (2 ^ p) word a la half-le)
 
-        w-first : (q : Place p) → getD w (number q) 0 ≡ at A q
-        w-first q =
-            ap (λ (x : List ℕ). getD x (number q) 0) (lent-both (2 ^ p) word a la half-le b)
-            ∙ List·getD-append a b 0 (number q) (let l = number-lt q in let e = front-long (2 ^ p) word a la half-le in omega arith)
-            ∙ ap (λ (x : List ℕ). getD x (number q) 0) a-leaves ∙ leaves-at 0 q A
-
-        w-second : (q : Place p) → getD w (2 ^ p + number q) 0 ≡ at B q
-        w-second q =
-            ap (λ (x : List ℕ). getD x (2 ^ p + number q) 0) (lent-both (2 ^ p) word a la half-le b)
-            ∙ ap (λ (x : ℕ). getD (a ++ b) (x + number q) 0) (sym (front-long (2 ^ p) word a la half-le)) ∙ getD-append-add a b (number q) 0
-            ∙ ap (λ (x : List ℕ). getD x (number q) 0) b-leaves ∙ leaves-at 0 q B
-
-        coef : (q : Place p) → getD cs (start + number q) 1 ≡ at (treeOf 1 p (take (2 ^ p) (drop start cs))) q
-        coef q =
-            sym (treeOf-at 1 (take (2 ^ p) (drop start cs)) q ∙ getD-take (2 ^ p) (drop start cs) (number q) 1 (number-lt q) ∙ getD-drop start cs (number q) 1)
-
-        tree : Tree ℕ (suc p)
-        tree = join p (treeOf 1 p (take (2 ^ p) (drop start cs))) A B
-
-        placed : (q : Place (suc p)) → getD after (number q) 0 ≡ at tree q
-        unfolding tree join at number
-        placed (first q) = j .sums (number q) (number-lt q) ∙ ap₂ _⊕_ (w-first q) (w-second q) ∙ sym (map2-at _⊕_ q A B)
-        placed (second q) =
-            j .products (number q) (number-lt q) ∙ ap₂ _⊙_ (coef q) (w-second q) ∙ sym (map2-at _⊙_ q (treeOf 1 p (take (2 ^ p) (drop start cs))) B)
-
         transformed : after ≡ blockTransform (suc p) start stride cs word
-        unfolding blockTransform transformTree coefsAt treeOf A B tree
-        transformed = leaves-by 0 (suc p) after tree (lw ∙ lent-whole (2 ^ p) word a la half-le b lb ∙ given .long) placed
+        unfolding blockTransform transformTree coefsAt treeOf A B
+        transformed =
+            joined-leaves p start cs a b after A B a-leaves b-leaves (lw ∙ lent-whole (2 ^ p) word a la half-le b lb ∙ given .long)
+            (subst (λ (x : List ℕ). Joined (2 ^ p) start cs x after) (lent-both (2 ^ p) word a la half-le b) j)
 
 -- ---- the step at L layers, halves of `half` places
 
 -- what is shown at p + 1 layers, put to use at L layers
-split : (P : ℕ → ℕ → ℕ → Type 0) → ((p : ℕ) → P (suc p) p (2 ^ p)) → (L half : ℕ) → (L ≡ 0 → ⊥) → half ≡ 2 ^ L / 2 → P L (L - 1) half
+pub split : (P : ℕ → ℕ → ℕ → Type 0) → ((p : ℕ) → P (suc p) p (2 ^ p)) → (L half : ℕ) → (L ≡ 0 → ⊥) → half ≡ 2 ^ L / 2 → P L (L - 1) half
 split P f zero half ne e = absurd (ne refl)
 split P f (suc p) half ne e =
     let a : suc p - 1 ≡ p = omega arith in

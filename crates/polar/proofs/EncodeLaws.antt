@@ -11,7 +11,7 @@ use lib.Pow.{pow-mono}
 use Rattle.refusal.specs.Table.{Numbered}
 use Rattle.refusal.proofs.Laws.{taken-none, none-taken}
 use Rattle.refusal.proofs.Within.{inside-within, within-inside, none-within, within-none, false-equal, equal-false}
-use Rattle.polar.specs.Code.{messagePlaces, IsWord}
+use Rattle.polar.specs.Code.{messagePlaces, IsCode, IsWord}
 use Rattle.polar.specs.Encode.{wordBefore, codewordOf, encodeTable, encodeRefusal, Encodable}
 use Rattle.polar.specs.Halves.{blockTransform}
 use Rattle.polar.specs.Parts.{Room, Block, Placing}
@@ -82,26 +82,31 @@ room-at (suc m) start stride all l =
     let q = half-pow m in
     (omega arith, room-at m (start + stride) stride all (omega arith), room-at m (start + stride + 2 ^ m / 2) stride all (omega arith))
 
+-- the whole word is a block
+pub word-block : (n : ℕ) (map cs word : List ℕ) → IsCode n map cs → length word ≡ 2 ^ n → Block n (2 ^ n / 2) 0 (2 ^ n / 2) cs word
+word-block n map cs word c l =
+    let few = c .layers .most in
+    let size = pow-mono {i = n} {j = 8} few in
+    let most = mul-le-mul {n₁ = n} {m₁ = 2 ^ n / 2} {n₂ = 8} {m₂ = 128} few (omega arith) in
+    record {
+      few-layers = few;
+      halved = refl;
+      stride-small = omega arith;
+      few-coefs = (let e = c .coefs-long in omega arith);
+      room = room-at n 0 (2 ^ n / 2) (length cs) (let e = c .coefs-long in omega arith);
+      long = l;
+    }
+
 module _ (n : ℕ) (map cs symbols buffer : List ℕ) (t : Encodable n map cs symbols buffer) where
   -- what `place_message` is given
   pub placing : Placing map symbols buffer
   placing = record { places = t .buffer-long ∙ sym (t .code .map-long); enough = t .message-long }
 
-  -- what `transform_block` is given: the whole word is a block
+  -- what `transform_block` is given
   pub whole-block : (word : List ℕ) → word ≡ wordBefore map symbols → Block n (length map / 2) 0 (length map / 2) cs word
   whole-block word e =
-      let few = t .code .layers .most in
-      let half : length map / 2 ≡ 2 ^ n / 2 = ap (λ (x : ℕ). x / 2) (t .code .map-long) in
-      let size = pow-mono {i = n} {j = 8} few in
-      let most = mul-le-mul {n₁ = n} {m₁ = 2 ^ n / 2} {n₂ = 8} {m₂ = 128} few (omega arith) in
-      subst (λ (x : ℕ). Block n x 0 x cs word) (sym half) (record {
-        few-layers = few;
-        halved = refl;
-        stride-small = omega arith;
-        few-coefs = (let l = t .code .coefs-long in omega arith);
-        room = room-at n 0 (2 ^ n / 2) (length cs) (let l = t .code .coefs-long in omega arith);
-        long = ap length e ∙ length-word map symbols ∙ t .code .map-long;
-      })
+      subst (λ (x : ℕ). Block n x 0 x cs word) (sym (ap (λ (x : ℕ). x / 2) (t .code .map-long)))
+      (word-block n map cs word (t .code) (ap length e ∙ length-word map symbols ∙ t .code .map-long))
 
   -- what `transform_block` leaves is the codeword
   pub whole-word : (word after : List ℕ) → word ≡ wordBefore map symbols → after ≡ blockTransform n 0 (length map / 2) cs word → after ≡ codewordOf n map cs symbols

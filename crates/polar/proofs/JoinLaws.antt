@@ -6,7 +6,7 @@ use Prim.Native.Nat.{ℕ, _+_, _≤_, _<_}
 use native.Mathlib.Omega.{arith}
 use lib.ListN.{length, getD, set}
 use Rattle.gf64.specs.Field.{_⊕_, _⊙_}
-use Rattle.polar.specs.Parts.{Halves}
+use Rattle.polar.specs.Join.{Halves}
 use Rattle.polar.proofs.Numbers.{lt-or-le, getD-any, both-long, both-first, both-second, both-other}
 
 -- kernel s has turned the word into `after`

@@ -4,3 +4,4 @@ pub mod Encode
 pub mod Tree
 pub mod Halves
 pub mod Parts
+pub mod Join

@@ -1,9 +1,8 @@
 -- What the functions inside this crate are given, and what they leave. No public call asks any of this.
-use Prim.Native.Nat.{ℕ, zero, suc, _+_, _/_, _^_, _≤_, _<_}
+use Prim.Native.Nat.{ℕ, zero, suc, _+_, _/_, _^_, _≤_}
 use mathlib.Core.Path.{_≡_}
 use mathlib.Core.List.{List}
-use lib.ListN.{length, getD}
-use Rattle.gf64.specs.Field.{_⊕_, _⊙_}
+use lib.ListN.{length}
 use Rattle.polar.specs.Code.{messagePlaces}
 
 -- the coefficients of a block (Halves.coefsAt) are among n
@@ -19,18 +18,6 @@ pub record Block (m half start stride : ℕ) (cs word : List ℕ) : Type 0 where
   pub few-coefs : length cs ≤ 1024
   pub room : Room m start stride (length cs)
   pub long : length word ≡ 2 ^ m
-
--- what `join_halves` is given
-pub record Halves (half start : ℕ) (cs word : List ℕ) : Type 0 where
-  pub few : half ≤ 128
-  pub few-coefs : length cs ≤ 1024
-  pub room : start + half ≤ length cs
-  pub long : length word ≡ half + half
-
--- and what it leaves: kernel t of the block joins its places t and half + t
-pub record Joined (half start : ℕ) (cs word after : List ℕ) : Type 0 where
-  pub sums : (t : ℕ) → t < half → getD after t 0 ≡ getD word t 0 ⊕ getD word (half + t) 0
-  pub products : (t : ℕ) → t < half → getD after (half + t) 0 ≡ getD cs (start + t) 1 ⊙ getD word (half + t) 0
 
 -- what `place_message` is given
 pub record Placing (map symbols word : List ℕ) : Type 0 where

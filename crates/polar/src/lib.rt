@@ -5,3 +5,4 @@ mod transform;
 
 pub use encoder::encode;
 pub use places::message_places;
+pub use transform::join_halves;

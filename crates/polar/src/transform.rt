@@ -1,10 +1,11 @@
 // The transform of a word in place, by halves.
 ghost use mathlib.Core.Path.{_≡_};
 ghost use Rattle.polar.specs.Halves.{blockTransform};
-ghost use Rattle.polar.specs.Parts.{Block, Halves, Joined};
+ghost use Rattle.polar.specs.Parts.{Block};
+ghost use Rattle.polar.specs.Join.{Halves, Joined, HalvesJoined};
 
 // The kernels that join the two halves of a word: kernel t has the places t and half + t, and coefficient start + t.
-pub(crate) fn join_halves(half: usize, start: usize, coefs: &[u8], word: &mut [u8])
+fn join_kernels(half: usize, start: usize, coefs: &[u8], word: &mut [u8])
     requires { ⌜ Halves half start (now coefs) (now word) ⌝ }
     ensures { λ _. ⌜ Joined half start (now (coefs .entry)) (now (word .entry)) (now (word .exit)) ⌝ }
 {
@@ -48,5 +49,28 @@ pub(crate) fn transform_block(
         coefs,
         &mut word[half..],
     );
-    join_halves(half, start, coefs, word);
+    join_kernels(half, start, coefs, word);
+}
+
+// Joins the two halves of a word by the kernels between them: kernel t has the places t and half + t, and coefficient start + t. Where the
+// word is not two halves of at most 128 places, or the coefficients are not all there or more than 1,024, nothing is written.
+pub fn join_halves(half: usize, start: usize, coefs: &[u8], word: &mut [u8])
+    ensures { λ _. ⌜ HalvesJoined half start (now (coefs .entry)) (now (word .entry)) (now (word .exit)) ⌝ }
+{
+    if 128 < half {
+        return;
+    }
+    if 1024 < coefs.len() {
+        return;
+    }
+    if coefs.len() < half {
+        return;
+    }
+    if coefs.len() - half < start {
+        return;
+    }
+    if word.len() != half + half {
+        return;
+    }
+    join_kernels(half, start, coefs, word);
 }

@@ -1,7 +1,7 @@
 -- The laws of a refusal table: a refusal is the number of the first row that fits, and a call is taken exactly when no row does.
 use mathlib.Core.Path.{_≡_, refl, sym, ap, _∙_, subst}
 use mathlib.Core.Bool.{Bool, true, false, cond}
-use mathlib.Core.List.{List, [], _∷_}
+use mathlib.Core.List.{List, [], _∷_, _++_}
 use Prim.Native.Nat.{ℕ}
 use native.Mathlib.Omega.{arith}
 use borrow.Author.Tests.{eq-eqb, ne-eqb}
@@ -45,6 +45,23 @@ taken-none rs p e = walked (subst (Finds rs) e (refusal-finds rs)) p refl
     walked none n z = tt
     walked (here q) n z = absurd (let l = n .0 in omega arith)
     walked (later q w) n z = (q, walked w (n .1) z)
+
+-- a table in two parts: the first part's refusal is the whole table's
+pub first-refused : (rs ss : List Row) → (refusalOf rs ≡ 0 → ⊥) → refusalOf (rs ++ ss) ≡ refusalOf rs
+first-refused rs ss h = walked (refusal-finds rs) h
+  where
+    walked : {ts : List Row} {k : ℕ} → Finds ts k → (k ≡ 0 → ⊥) → refusalOf (ts ++ ss) ≡ k
+    walked none n = absurd (n refl)
+    walked (here q) n = finds-refusal (here q)
+    walked (later q w) n = finds-refusal (later q (subst (Finds _) (walked w n) (refusal-finds _)))
+
+-- and where the first part has none, the second part's is
+pub first-taken : (rs ss : List Row) → Numbered rs → refusalOf rs ≡ 0 → refusalOf (rs ++ ss) ≡ refusalOf ss
+first-taken rs ss p e = passed rs (taken-none rs p e)
+  where
+    passed : (ts : List Row) → NoneFits ts → refusalOf (ts ++ ss) ≡ refusalOf ss
+    passed [] h = refl
+    passed (t ∷ ts) h = finds-refusal (later (h .0) (subst (Finds (ts ++ ss)) (passed ts (h .1)) (refusal-finds (ts ++ ss))))
 
 -- what a call leaves, by its answer r
 module _ {A : Type 0} (r : ℕ) (made kept : A) where

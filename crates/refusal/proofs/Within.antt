@@ -13,17 +13,17 @@ use lib.Seq.{drop-cons}
 use Rattle.refusal.specs.Tests.{outside, anyOutside, unequal, Within}
 
 -- neither holds, so the first does not
-or-left : (a b : Bool) → a || b ≡ false → a ≡ false
+pub or-left : (a b : Bool) → a || b ≡ false → a ≡ false
 or-left true b e = e
 or-left false b e = refl
 
 -- nor the second
-or-right : (a b : Bool) → a || b ≡ false → b ≡ false
+pub or-right : (a b : Bool) → a || b ≡ false → b ≡ false
 or-right true b e = absurd (let z : _≡_ {A = ℕ} 0 1 = cc in omega arith)
 or-right false b e = e
 
 -- the second holds, so one does
-or-true-right : (a : Bool) {b : Bool} → b ≡ true → a || b ≡ true
+pub or-true-right : (a : Bool) {b : Bool} → b ≡ true → a || b ≡ true
 or-true-right true e = refl
 or-true-right false e = e
 

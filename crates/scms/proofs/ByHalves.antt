@@ -17,7 +17,7 @@ use Rattle.polar.proofs.Windows.{window, window-at, window-all}
 use Rattle.polar.proofs.ByHalves.{block-halves, by-halves}
 use Rattle.scms.specs.Decision.{decision}
 use Rattle.scms.specs.Decoder.{vectors, loweredAt, clippedAt, clipCount, takenIn, takenOff, heldAt, held, symbols, report, count}
-use Rattle.scms.specs.Halves.{Vectors, Answer, checkNodes, variableNodes, clippedNodes, takenNodes, decodeTree, frameTree, decodeHalves, SameAnswer}
+use Rattle.scms.specs.Halves.{Vectors, BlockAnswer, checkNodes, variableNodes, clippedNodes, takenNodes, decodeTree, frameTree, decodeHalves, SameAnswer}
 use Rattle.scms.specs.Totals.{Unclipped}
 use Rattle.scms.proofs.TreeDecoder.{decoded-from, word-transform}
 use Rattle.scms.proofs.Blocks.{block-fits}
@@ -36,7 +36,7 @@ module _ (n cap : ℕ) (cs map frame r : List ℕ) (lr : length r ≡ 2 ^ n) whe
   vs d = vectors n cap cs frame r d
 
   -- a block's answer by halves is what the indices say: the vectors held, the count and what was taken off
-  record BlockIs (m d o : ℕ) (a : Answer m) : Type 0 where
+  record BlockIs (m d o : ℕ) (a : BlockAnswer m) : Type 0 where
     held-is : window [] m o (vs n) ≡ a .held
     count-is : a .count ≡ clippedIn n cap cs frame r m d o
     taken-is : (p : Place m) → at (a .taken) p ≡ takenFrom n cap cs frame r m d (o + number p)
@@ -55,7 +55,7 @@ module _ (n cap : ℕ) (cs map frame r : List ℕ) (lr : length r ≡ 2 ^ n) whe
   at-leaf x here = refl
 
   -- a block from its two halves: count and what is taken off
-  module _ (m d w o : ℕ) (e : d + suc m ≡ n) (eo : o ≡ w * (2 ^ m + 2 ^ m)) (a b : Answer m) (clipped taken : ℕ)
+  module _ (m d w o : ℕ) (e : d + suc m ≡ n) (eo : o ≡ w * (2 ^ m + 2 ^ m)) (a b : BlockAnswer m) (clipped taken : ℕ)
       (clips : clipped ≡ sumTo (2 ^ m) (λ k. clippedAt n cap cs frame r (suc d) (w * 2 ^ m + k)))
       (takes : taken ≡ sumTo (2 ^ m) (λ k. loweredAt n cap cs frame r (suc d) (w * 2 ^ m + k) .taken))
       (ha : BlockIs m (suc d) o a) (hb : BlockIs m (suc d) (o + 2 ^ m) b) where
@@ -124,7 +124,7 @@ module _ (n cap : ℕ) (cs map frame r : List ℕ) (lr : length r ≡ 2 ^ n) whe
 
 module _ (n cap : ℕ) (cs map frame : List ℕ) where
   -- the answer by halves
-  abbrev A : Answer n
+  abbrev A : BlockAnswer n
   A = decodeHalves n cap cs map frame
 
   -- its symbols

@@ -16,7 +16,7 @@ use Rattle.polar.proofs.OneToOne.{coefs-nonzero}
 use Rattle.scms.specs.Decoder.{takenOff, held, symbols}
 use Rattle.scms.specs.Totals.{Least, Begins, LeastTotal, EachZero, Unclipped}
 use Rattle.scms.specs.Claims.{heldAndTaken, LeastTotals}
-use Rattle.scms.specs.Halves.{Answer, frameTree, decodeHalves}
+use Rattle.scms.specs.Halves.{BlockAnswer, frameTree, decodeHalves}
 use Rattle.scms.proofs.Decisions.{held-zero}
 use Rattle.scms.proofs.ByHalves.{same-answer, halves-unclipped}
 use Rattle.scms.proofs.TreeTotals.{llrAt}
@@ -86,7 +86,7 @@ less-least-by v t more z lz vz e b lb =
 
 module _ (n cap : ℕ) (cs map frame : List ℕ) (g : Coefficients cs) (z : EachZero n frame) (un : Unclipped n cap cs map frame) where
   -- the answer by halves
-  abbrev A : Answer n
+  abbrev A : BlockAnswer n
   A = decodeHalves n cap cs map frame
 
   -- the least total of a row, by the form by halves

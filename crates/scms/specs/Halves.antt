@@ -19,7 +19,7 @@ Vectors m = Tree (List ℕ) m
 
 -- what decoding a block answers: the symbols decided, their transform, the vectors held, what was taken off along each place's line inside
 -- the block, and the count of clipped entries
-pub record Answer (m : ℕ) : Type 0 where
+pub record BlockAnswer (m : ℕ) : Type 0 where
   pub symbols : Tree ℕ m
   pub word : Tree ℕ m
   pub held : Vectors m
@@ -43,7 +43,7 @@ unfoldable pub takenNodes : (m : ℕ) → Tree ℕ m → Vectors m → Vectors m
 takenNodes m h f g u = treeSum m (map4 m (λ k v w s. lowered k s v w .taken) h f g u)
 
 -- the decoder of a block: its coefficients, its map bytes and its vectors
-unfoldable pub decodeTree : (m cap : ℕ) → Coefs m → Tree ℕ m → Vectors m → Answer m
+unfoldable pub decodeTree : (m cap : ℕ) → Coefs m → Tree ℕ m → Vectors m → BlockAnswer m
 decodeTree zero cap k map f =
     let s = decision (kindOf map) f in
     record { symbols = s; word = s; held = f; taken = 0; count = 0 }
@@ -63,7 +63,7 @@ unfoldable pub frameTree : (m : ℕ) → List ℕ → Vectors m
 frameTree m frame = treeOf [] m (tabulate (2 ^ m) (vectorAt frame))
 
 -- the whole word, decoded by halves
-unfoldable pub decodeHalves : (n cap : ℕ) (cs map frame : List ℕ) → Answer n
+unfoldable pub decodeHalves : (n cap : ℕ) (cs map frame : List ℕ) → BlockAnswer n
 decodeHalves n cap cs map frame = decodeTree n cap (coefsAt n 0 (2 ^ n / 2) cs) (treeOf 0 n map) (frameTree n frame)
 
 -- the two forms of the decoder say the same: symbols, vectors held, what was taken off, count; and the word by halves is the decoded word,

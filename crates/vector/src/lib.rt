@@ -1,6 +1,6 @@
-// Vectors of 64 numbers, one for each value of a symbol: the least entry, and each entry less the least.
+// Vectors of 64 numbers, one for each value of a symbol: the least entry, each entry less the least, and the vectors of a slice.
 ghost use mathlib.Core.Path.{_≡_};
-ghost use Rattle.vector.specs.Vector.{least, lessLeast};
+ghost use Rattle.vector.specs.Vector.{least, lessLeast, loaded, stored};
 
 // The least of the 64 entries.
 pub fn least_of(v: &[u16; 64]) -> u16
@@ -30,4 +30,36 @@ pub fn subtract_least(v: &[u16; 64]) -> [u16; 64]
         b += 1;
     }
     r
+}
+
+// Vector i of a slice: its 64 numbers from 64 times i on. Where the slice has no such vector, 64 zeros.
+pub fn load(s: &[u16], i: usize) -> [u16; 64]
+    ensures { λ r. ⌜ r ≡ loaded (now (s .entry)) i ⌝ }
+{
+    let mut v = [0u16; 64];
+    if s.len() / 64 <= i {
+        return v;
+    }
+    let at = 64 * i;
+    let mut c: usize = 0;
+    while c < 64 {
+        v[c] = s[at + c];
+        c += 1;
+    }
+    v
+}
+
+// Writes v as vector i of a slice. Where the slice has no such vector, nothing is written.
+pub fn store(v: &[u16; 64], i: usize, s: &mut [u16])
+    ensures { λ _. ⌜ now (s .exit) ≡ stored (now (s .entry)) i (now (v .entry)) ⌝ }
+{
+    if s.len() / 64 <= i {
+        return;
+    }
+    let at = 64 * i;
+    let mut c: usize = 0;
+    while c < 64 {
+        s[at + c] = v[c];
+        c += 1;
+    }
 }

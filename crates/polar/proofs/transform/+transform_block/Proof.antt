@@ -10,7 +10,7 @@ use Rattle.polar.proofs.BlockLaws.{at-leaf, at-sizes, at-first, at-seco
 use Rattle.polar.proofs.transform.transform_block.Reads as block-reads
 use Rattle.polar.proofs.transform.transform_block.Kinds as block-kinds
 use Rattle.polar.proofs.transform.+transform_block.Lts-transform_block as lts
-use Rattle.polar.proofs.transform.join_halves.Reads as join-reads
+use Rattle.polar.proofs.transform.join_kernels.Reads as join-reads
 use Rattle.polar.proofs.transform.+transform_block.{statement}
 use Rattle.polar.proofs.transform.+transform_block.Tie.{close}
 
@@ -93,7 +93,7 @@ second-requires t c κs =
     let call = c .before .before .before .transform-block in
     (fewer (s .args .layers) t ne (s .pre .0), at-second ne (s .pre .1) (call .last .1 .1 .1 .1 .1 .0) (call .kept .1 .1 .1 .1 .1 .0))
 
-join-requires : (t : ℕ) → lts.Need-join-halves-requires (calls t) (given t) block-reads.Post
+join-requires : (t : ℕ) → lts.Need-join-kernels-requires (calls t) (given t) block-reads.Post
 join-requires t c κs =
     let s = else-start t (c .before .before .before .before .before .before .before .before .before) in
     let ne = (c .before .before .before .before .before .before .before .before .before) .if1 .left in
@@ -107,7 +107,7 @@ same-length t c =
     let ne = (c .before .before .before .before .before .before .before .before .before .before .before .before) .if1 .left in
     let one = c .before .before .before .before .before .before .before .before .before .before .transform-block in
     let two = c .before .before .before .before .before .before .transform-block2 in
-    c .before .before .join-halves .kept .1 .1 .1 .0
+    c .before .before .join-kernels .kept .1 .1 .1 .0
     ∙ lent-whole (s .args .half) (s .args .word .now) (one .last .1 .1 .1 .1 .1 .0) (one .kept .1 .1 .1 .1 .1 .0) (at-sizes ne (s .pre .1) .within)
     (two .last .1 .1 .1 .1 .1 .0) (two .kept .1 .1 .1 .1 .1 .0)
 
@@ -117,7 +117,7 @@ returns-2 t c =
     let ne = (c .before .before .before .before .before .before .before .before .before .before .before .before) .if1 .left in
     let one = c .before .before .before .before .before .before .before .before .before .before .transform-block in
     let two = c .before .before .before .before .before .before .transform-block2 in
-    let three = c .before .before .join-halves in
+    let three = c .before .before .join-kernels in
     at-transformed ne (s .pre .1) (one .last .1 .1 .1 .1 .1 .0) (one .kept .1 .1 .1 .1 .1 .0) (two .last .1 .1 .1 .1 .1 .0) (two .kept .1 .1 .1 .1 .1 .0)
     (three .last .1 .1 .1 .0) (three .kept .1 .1 .1 .0) (one .ensures) (two .ensures) (three .ensures)
 

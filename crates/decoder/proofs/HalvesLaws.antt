@@ -1,0 +1,133 @@
+-- One step of the decoder by halves: what a block leaves, from what its halves left and the nodes of the kernels that join them.
+use mathlib.Core.Path.{_≡_, refl, sym, ap, ap₂, _∙_, subst}
+use mathlib.Core.List.{List, [], _++_}
+use Prim.Native.Nat.{ℕ, zero, suc, _+_, _*_, _-_, _/_, _^_, _≤_, _<_}
+use native.Mathlib.Nat.{zero-add, suc-mul, mul-add}
+use native.Mathlib.Omega.{arith}
+use lib.ListN.{length, getD, take, drop}
+use Rattle.vector.specs.Vector.{tabulate, vectorAt, sumTo}
+use Rattle.vector.proofs.Laws.{getD-tabulate, sum-ext}
+use Rattle.polar.specs.Tree.{Tree, map3, map4, treeSum, treeOf, leaves, Place, first, second, at, number}
+use Rattle.polar.specs.Halves.{join, coefsAt}
+use Rattle.polar.specs.Join.{Joined}
+use Rattle.polar.proofs.Numbers.{two-pow}
+use Rattle.polar.proofs.TreeLaws.{number-lt, map3-at, map4-at, ext-at, treeOf-at, leaves-at, length-leaves}
+use Rattle.scms.specs.Nodes.{checkNode, variableNode, clippedEntries}
+use Rattle.scms.specs.Halves.{Vectors, BlockAnswer, checkNodes, variableNodes, clippedNodes, decodeTree}
+use Rattle.scms.proofs.TreeSums.{tree-sum}
+use Rattle.decoder.specs.Parts.{AreCheckNodes, AreVariableNodes, clippedTo, vectorsFrom, blockAnswer, BlockDecoded}
+use Rattle.polar.proofs.BlockLaws.{coef-at, joined-leaves}
+use Rattle.vector.proofs.SliceLaws.{vector-first, vector-second}
+
+-- the vector at a place of a block is the one with its number
+pub vectors-at : (m o : ℕ) (source : List ℕ) (p : Place m) → at (vectorsFrom m o source) p ≡ vectorAt source (o + number p)
+unfolding vectorsFrom
+vectors-at m o source p =
+    treeOf-at [] (tabulate (2 ^ m) (λ i. vectorAt source (o + i))) p ∙ getD-tabulate [] (2 ^ m) (λ i. vectorAt source (o + i)) (number p) (number-lt p)
+
+-- a block's vectors are a tree's if each is
+pub vectors-by : (m o : ℕ) (source : List ℕ) (f : Vectors m) → ((p : Place m) → vectorAt source (o + number p) ≡ at f p) → vectorsFrom m o source ≡ f
+vectors-by m o source f h = ext-at m (vectorsFrom m o source) f (λ p. vectors-at m o source p ∙ h p)
+
+-- functions of three and of four things that are equal to others
+same-three : {A B C D : Type 0} {a a′ : A} {b b′ : B} {c c′ : C} (f : A → B → C → D) → a ≡ a′ → b ≡ b′ → c ≡ c′ → f a b c ≡ f a′ b′ c′
+same-three f p q r = λ i. f (p i) (q i) (r i)
+
+same-four : {A B C D E : Type 0} {a a′ : A} {b b′ : B} {c c′ : C} {d d′ : D} (f : A → B → C → D → E) → a ≡ a′ → b ≡ b′ → c ≡ c′ → d ≡ d′
+    → f a b c d ≡ f a′ b′ c′ d′
+same-four f p q r s = λ i. f (p i) (q i) (r i) (s i)
+
+-- the kernels that join the halves of a block of 2^(p + 1) places
+module _ (p start o : ℕ) (cs source : List ℕ) where
+  -- their coefficients
+  abbrev H : Tree ℕ p
+  H = treeOf 1 p (take (2 ^ p) (drop start cs))
+
+  -- the block's vectors, in its two halves
+  abbrev F : Vectors (suc p)
+  F = vectorsFrom (suc p) o source
+
+  first-at : (q : Place p) → vectorAt source (o + number q) ≡ at (F .0) q
+  unfolding at number
+  first-at q = sym (vectors-at (suc p) o source (first q))
+
+  second-at : (q : Place p) → vectorAt source (o + (2 ^ p + number q)) ≡ at (F .1) q
+  unfolding at number
+  second-at q = sym (vectors-at (suc p) o source (second q))
+
+  -- the check nodes
+  checks-tree : (ys : List ℕ) → AreCheckNodes (2 ^ p) o (2 ^ p) start cs source ys → vectorsFrom p (o + (2 ^ p + 2 ^ p)) ys ≡ checkNodes p H (F .0) (F .1)
+  unfolding checkNodes
+  checks-tree ys h = vectors-by p (o + (2 ^ p + 2 ^ p)) ys (map3 p checkNode H (F .0) (F .1)) (λ q.
+      h (number q) (number-lt q) ∙ same-three checkNode (coef-at p start cs q) (first-at q) (second-at q) ∙ sym (map3-at checkNode q H (F .0) (F .1)))
+
+  -- the symbols of the first half, as a list and as a tree
+  module _ (cap : ℕ) (w : List ℕ) (W : Tree ℕ p) (hw : (q : Place p) → getD w (number q) 0 ≡ at W q) where
+    -- the variable nodes
+    variables-tree : (zs : List ℕ) → AreVariableNodes (2 ^ p) o (2 ^ p) start cap cs w source zs
+        → vectorsFrom p (o + (2 ^ p + 2 ^ p)) zs ≡ variableNodes p cap H (F .0) (F .1) W
+    unfolding variableNodes
+    variables-tree zs h = vectors-by p (o + (2 ^ p + 2 ^ p)) zs (map4 p (λ k v w s. variableNode cap k s v w) H (F .0) (F .1) W) (λ q.
+        h (number q) (number-lt q) ∙ same-four (λ k v w s. variableNode cap k s v w) (coef-at p start cs q) (first-at q) (second-at q) (hw q)
+        ∙ sym (map4-at (λ k v w s. variableNode cap k s v w) q H (F .0) (F .1) W))
+
+    -- and their count of clipped entries
+    clipped-tree : clippedTo (2 ^ p) o (2 ^ p) start cap cs w source ≡ clippedNodes p cap H (F .0) (F .1) W
+    unfolding clippedNodes
+    clipped-tree =
+        sym (tree-sum p (map4 p (λ k v w s. clippedEntries cap k s v w) H (F .0) (F .1) W)
+        (λ t. clippedEntries cap (getD cs (start + t) 1) (getD w t 0) (vectorAt source (o + t)) (vectorAt source (o + (2 ^ p + t)))) (λ q.
+        map4-at (λ k v w s. clippedEntries cap k s v w) q H (F .0) (F .1) W
+        ∙ sym (same-four (λ k v w s. clippedEntries cap k s v w) (coef-at p start cs q) (first-at q) (second-at q) (hw q))))
+
+-- a report of two halves, one after the other
+module _ (p : ℕ) (a b : List ℕ) (la : length a ≡ 64 * 2 ^ p) where
+  report-first : vectorsFrom (suc p) 0 (a ++ b) .0 ≡ vectorsFrom p 0 a
+  report-first = sym (vectors-by p 0 a (vectorsFrom (suc p) 0 (a ++ b) .0) (λ q.
+      let l = number-lt q in
+      sym (vector-first (2 ^ p) a b (0 + number q) la (omega arith)) ∙ first-at p 0 0 [] (a ++ b) q))
+
+  report-second : vectorsFrom (suc p) 0 (a ++ b) .1 ≡ vectorsFrom p 0 b
+  report-second = sym (vectors-by p 0 b (vectorsFrom (suc p) 0 (a ++ b) .1) (λ q.
+      ap (vectorAt b) (zero-add (number q)) ∙ sym (vector-second (2 ^ p) a b (number q) la) ∙ ap (vectorAt (a ++ b)) (sym (zero-add (2 ^ p + number q))) ∙ second-at p 0 0 [] (a ++ b) q))
+
+-- the count of a block: its halves' and that of the nodes that join them
+few-more : (p left clipped right : ℕ) → left ≤ 64 * (p * 2 ^ p) → clipped ≤ 64 * 2 ^ p → right ≤ 64 * (p * 2 ^ p) → left + clipped + right ≤ 64 * (suc p * 2 ^ suc p)
+few-more p left clipped right a b c =
+    let e : suc p * 2 ^ suc p ≡ (2 ^ p + 2 ^ p) + p * (2 ^ p + 2 ^ p) = ap (λ (x : ℕ). suc p * x) (two-pow p) ∙ suc-mul p (2 ^ p + 2 ^ p) ∙ omega arith in
+    let f : p * (2 ^ p + 2 ^ p) ≡ p * 2 ^ p + p * 2 ^ p = mul-add p (2 ^ p) (2 ^ p) in
+    omega arith
+
+-- what a block with L layers leaves: its halves have q layers and h places each
+module _ (start stride cap o : ℕ) (cs map source : List ℕ) where
+  abbrev pub Step : ℕ → ℕ → ℕ → Type 0
+  Step L q h =
+      (ys zs w wA wB after sA sB rA rB : List ℕ) (left clipped right : ℕ)
+      → AreCheckNodes h o h start cs source ys
+      → BlockDecoded q (start + stride) stride cap cs (take h map) (vectorsFrom q (o + (h + h)) ys) wA sA rA left
+      → ((t : ℕ) → t < h → getD w t 0 ≡ getD wA t 0)
+      → AreVariableNodes h o h start cap cs w source zs → clipped ≡ clippedTo h o h start cap cs w source → clipped ≤ 64 * h
+      → BlockDecoded q (start + stride + h / 2) stride cap cs (drop h map) (vectorsFrom q (o + (h + h)) zs) wB sB rB right
+      → length rA ≡ 64 * h → length after ≡ 2 ^ L → Joined h start cs (wA ++ wB) after
+      → BlockDecoded L start stride cap cs map (vectorsFrom L o source) after (sA ++ sB) (rA ++ rB) (left + clipped + right)
+
+  pub step : (p : ℕ) → Step (suc p) p (2 ^ p)
+  unfolding decodeTree coefsAt treeOf leaves
+  step p ys zs w wA wB after sA sB rA rB left clipped right checked dA hw varied ec fc dB lr la j =
+      let hs = H p start o cs source in
+      let f = F p start o cs source in
+      let A = blockAnswer p (start + stride) stride cap cs (take (2 ^ p) map) (checkNodes p hs (f .0) (f .1)) in
+      let eA = subst (λ (g : Vectors p). BlockDecoded p (start + stride) stride cap cs (take (2 ^ p) map) g wA sA rA left) (checks-tree p start o cs source ys checked) dA in
+      let W = A .word in
+      let hW : (q : Place p) → getD w (number q) 0 ≡ at W q
+      = λ q. hw (number q) (number-lt q) ∙ ap (λ (x : List ℕ). getD x (number q) 0) (eA .word-is) ∙ leaves-at 0 q W in
+      let B = blockAnswer p (start + stride + 2 ^ p / 2) stride cap cs (drop (2 ^ p) map) (variableNodes p cap hs (f .0) (f .1) W) in
+      let eB = subst (λ (g : Vectors p). BlockDecoded p (start + stride + 2 ^ p / 2) stride cap cs (drop (2 ^ p) map) g wB sB rB right)
+      (variables-tree p start o cs source cap w W hW zs varied) dB in
+      record {
+        word-is = joined-leaves p start cs wA wB after W (B .word) (eA .word-is) (eB .word-is) la j;
+        symbols-are = ap₂ (λ (x y : List ℕ). x ++ y) (eA .symbols-are) (eB .symbols-are);
+        report-is = λ i. ((report-first p rA rB lr ∙ eA .report-is) i, (report-second p rA rB lr ∙ eB .report-is) i);
+        count-is = same-three (λ (x y z : ℕ). x + y + z) (eA .count-is) (ec ∙ clipped-tree p start o cs source cap w W hW) (eB .count-is);
+        few = few-more p left clipped right (dA .few) fc (dB .few);
+      }

@@ -1,0 +1,71 @@
+-- `decode_place` meets its contract: what its parts ensure, put together.
+use mathlib.Core.Path.{ap, _∙_}
+use mathlib.Core.List.{List, [], _∷_}
+use Prim.Native.Nat.{ℕ, _+_, _*_, _≤_}
+use native.Mathlib.Omega.{arith}
+use borrow.Author.Needs.{needs}
+use lib.ListN.{length, getD}
+use Rattle.vector.specs.Vector.{vectorAt}
+use Rattle.polar.specs.Code.{kindOf}
+use Rattle.scms.specs.Decision.{decision}
+use Rattle.decoder.proofs.LayerLaws.{stored-is, set-only}
+use Rattle.decoder.proofs.block.decode_place.Statement.{statement}
+use Rattle.decoder.proofs.block.decode_place.Tie as tie
+
+load-vector-requires : tie.Need-load-vector-requires
+load-vector-requires c κs = search needs
+
+shared-slice-read-decide : tie.Need-shared-slice-read-decide
+shared-slice-read-decide c = search needs
+
+decide-requires : tie.Need-decide-requires
+decide-requires c κs = search needs
+
+slice-write-word : tie.Need-slice-write-word
+slice-write-word c = search needs
+
+slice-write-symbols : tie.Need-slice-write-symbols
+slice-write-symbols c = search needs
+
+store-requires : tie.Need-store-requires
+store-requires c κs = search needs
+
+same-length : tie.Need-same-length
+same-length c = search needs
+
+same-length-2 : tie.Need-same-length-2
+same-length-2 c = search needs
+
+same-length-3 : tie.Need-same-length-3
+same-length-3 c = search needs
+
+returns : tie.Need-returns
+returns c =
+    let decided = c .before .before .before .before .before in
+    let loads = decided .before .before in
+    let s = loads .before .before .before .before .before .before .before in
+    let a = s .args in
+    let v = loads .load-vector .ensures in
+    let symbol = decided .decide .ensures ∙ ap (decision (kindOf (getD (a .map .now) 0 0))) v in
+    let fits : 64 * (0 + 1) ≤ length (a .report .now) = omega arith in
+    record {
+      word-is = set-only (a .word .now) _ (s .pre .word-long) ∙ ap (λ (x : ℕ). x ∷ []) symbol;
+      symbols-are = set-only (a .symbols .now) _ (s .pre .symbols-long) ∙ ap (λ (x : ℕ). x ∷ []) symbol;
+      report-is = ap (λ (xs : List ℕ). vectorAt xs 0) (c .before .before .store .ensures)
+          ∙ stored-is (a .report .now) 0 (loads .load-vector .result) fits (search needs) ∙ v;
+    }
+
+pub decode-place-spec : {M : Type 1} → statement M
+decode-place-spec =
+    tie.close
+    (tie.spec
+    load-vector-requires
+    shared-slice-read-decide
+    decide-requires
+    slice-write-word
+    slice-write-symbols
+    store-requires
+    same-length
+    same-length-2
+    same-length-3
+    returns)

@@ -1,0 +1,149 @@
+-- `content_refusal` meets its contract: it goes down the table of what the slices hold and stops at the first row that fits.
+use mathlib.Core.Path.{_≡_, sym, ap, _∙_}
+use mathlib.Core.List.{List}
+use Prim.Native.Nat.{ℕ, _/_}
+use native.Mathlib.Omega.{arith}
+use borrow.Author.Needs.{needs}
+use borrow.Author.Tests.{eq-eqb, ne-eqb}
+use lib.ListN.{length, drop}
+use Rattle.refusal.specs.Table.{Row, refusalOf}
+use Rattle.refusal.specs.Tests.{anyOutside}
+use Rattle.refusal.proofs.Laws.{Finds, none, here, later, finds-refusal}
+use Rattle.refusal.proofs.Within.{inside-within}
+use Rattle.scms.specs.Decoder.{capOf}
+use Rattle.decoder.specs.Refusals.{contentTable}
+use Rattle.decoder.proofs.refusals.content_refusal.Statement.{statement}
+use Rattle.decoder.proofs.refusals.content_refusal.Tie as tie
+
+-- the table for what the function was given
+abbrev table : tie.Start → List Row
+table s = contentTable (length (s .args .frame .now) / 64) (s .args .map .now) (s .args .coefs .now) (s .args .qc) (s .args .qm) (s .args .frame .now)
+
+-- the walk ends at k, so the function may return k
+ends : (s : tie.Start) {k : ℕ} → Finds (table s) k → k ≡ refusalOf (table s)
+ends s f = sym (finds-refusal f)
+
+-- the entry, from the place after each test that did not fit
+abbrev s1 : tie.Else1 → tie.Start
+s1 c = c .before .before .before .before .before
+
+abbrev s2 : tie.Else2 → tie.Start
+s2 c = s1 (c .before .before)
+
+abbrev s3 : tie.Else3 → tie.Start
+s3 c = s2 (c .before .before)
+
+abbrev s4 : tie.Else4 → tie.Start
+s4 c = s3 (c .before .before)
+
+abbrev s5 : tie.Else5 → tie.Start
+s5 c = s4 (c .before .before)
+
+abbrev s6 : tie.Else6 → tie.Start
+s6 c = s5 (c .before .before .before .before)
+
+abbrev s7 : tie.Else7 → tie.Start
+s7 c = s6 (c .before)
+
+-- the walk past each row
+past1 : (c : tie.Else1) {k : ℕ} → Finds (drop 1 (table (s1 c))) k → Finds (table (s1 c)) k
+past1 c f = later (sym (c .before .is-outside .ensures) ∙ c .if1 .left) f
+
+past2 : (c : tie.Else2) {k : ℕ} → Finds (drop 2 (table (s2 c))) k → Finds (table (s2 c)) k
+past2 c f = past1 (c .before .before) (later (sym (c .before .is-outside2 .ensures) ∙ c .if2 .left) f)
+
+past3 : (c : tie.Else3) {k : ℕ} → Finds (drop 3 (table (s3 c))) k → Finds (table (s3 c)) k
+past3 c f = past2 (c .before .before) (later (sym (c .before .any-outside .ensures) ∙ c .if3 .left) f)
+
+past4 : (c : tie.Else4) {k : ℕ} → Finds (drop 4 (table (s4 c))) k → Finds (table (s4 c)) k
+past4 c f = past3 (c .before .before) (later (ne-eqb _ 0 (λ q. c .if4 .left (c .before .message-places .ensures ∙ q))) f)
+
+past5 : (c : tie.Else5) {k : ℕ} → Finds (drop 5 (table (s5 c))) k → Finds (table (s5 c)) k
+past5 c f = past4 (c .before .before) (later (sym (c .before .any-outside2 .ensures) ∙ c .if5 .left) f)
+
+-- the test of row 8 is made with the largest penalty of Qc
+above : (c : tie.After-any-above) → let s = s5 (c .before .before) .args in anyOutside 0 (capOf (s .qc)) (s .frame .now) ≡ c .any-above .result
+above c =
+    let s = s5 (c .before .before) .args in
+    sym (c .any-above .ensures ∙ ap (λ (x : ℕ). anyOutside 0 x (s .frame .now)) (c .before .largest .ensures .0))
+
+past6 : (c : tie.Else6) {k : ℕ} → Finds (drop 6 (table (s6 c))) k → Finds (table (s6 c)) k
+unfolding capOf
+past6 c f = past5 (c .before .before .before .before) (later (above (c .before .before) ∙ c .if6 .left) f)
+
+past7 : (c : tie.Else7) {k : ℕ} → Finds (drop 7 (table (s7 c))) k → Finds (table (s7 c)) k
+past7 c f = past6 (c .before) (later (sym (c .before .before .any-without-zero .ensures) ∙ c .if7 .left) f)
+
+is-outside-requires : tie.Need-is-outside-requires
+is-outside-requires c κs = search needs
+
+returns : tie.Need-returns
+returns c = ends (c .before .before .before .before .before) (here (sym (c .before .is-outside .ensures) ∙ c .if1 .taken))
+
+is-outside-requires-2 : tie.Need-is-outside-requires-2
+is-outside-requires-2 c κs = search needs
+
+returns-2 : tie.Need-returns-2
+returns-2 c = ends (s1 (c .before .before)) (past1 (c .before .before) (here (sym (c .before .is-outside2 .ensures) ∙ c .if2 .taken)))
+
+any-outside-requires : tie.Need-any-outside-requires
+any-outside-requires c κs = search needs
+
+returns-3 : tie.Need-returns-3
+returns-3 c = ends (s2 (c .before .before)) (past2 (c .before .before) (here (sym (c .before .any-outside .ensures) ∙ c .if3 .taken)))
+
+message-places-requires : tie.Need-message-places-requires
+message-places-requires c κs = search needs
+
+returns-4 : tie.Need-returns-4
+returns-4 c = ends (s3 (c .before .before)) (past3 (c .before .before) (here (eq-eqb _ 0 (sym (c .before .message-places .ensures) ∙ c .if4 .taken))))
+
+any-outside-requires-2 : tie.Need-any-outside-requires-2
+any-outside-requires-2 c κs = search needs
+
+returns-5 : tie.Need-returns-5
+returns-5 c = ends (s4 (c .before .before)) (past4 (c .before .before) (here (sym (c .before .any-outside2 .ensures) ∙ c .if5 .taken)))
+
+-- Qc is at most 5
+largest-requires : tie.Need-largest-requires
+largest-requires c κs =
+    let first : tie.Else1 = c .before .before .before .before .before .before .before .before in
+    let few = inside-within 1 5 (s5 c .args .qc) (sym (first .before .is-outside .ensures) ∙ first .if1 .left) .most in
+    omega arith
+
+any-above-requires : tie.Need-any-above-requires
+any-above-requires c κs = search needs
+
+any-without-zero-requires : tie.Need-any-without-zero-requires
+any-without-zero-requires c κs = search needs
+
+returns-6 : tie.Need-returns-6
+unfolding capOf
+returns-6 c = ends (s5 (c .before .before .before .before)) (past5 (c .before .before .before .before) (here (above (c .before .before) ∙ c .if6 .taken)))
+
+returns-7 : tie.Need-returns-7
+returns-7 c = ends (s6 (c .before)) (past6 (c .before) (here (sym (c .before .before .any-without-zero .ensures) ∙ c .if7 .taken)))
+
+returns-8 : tie.Need-returns-8
+returns-8 c = ends (s7 c) (past7 c none)
+
+pub content-refusal-spec : {M : Type 1} → statement M
+content-refusal-spec =
+    tie.close
+    (tie.spec
+    is-outside-requires
+    returns
+    is-outside-requires-2
+    returns-2
+    any-outside-requires
+    returns-3
+    message-places-requires
+    returns-4
+    any-outside-requires-2
+    returns-5
+    largest-requires
+    any-above-requires
+    any-without-zero-requires
+    returns-6
+    returns-7
+    returns-8)

@@ -1,0 +1,78 @@
+-- What `decode` promises.
+use Prim.Native.Nat.{ℕ, _*_, _^_, _<_}
+use mathlib.Core.Path.{_≡_}
+use mathlib.Core.Bool.{cond}
+use mathlib.Core.List.{List, [], _∷_}
+use lib.Dec.{eqb}
+use lib.ListN.{replicate}
+use Rattle.vector.specs.Vector.{vectorAt}
+use Rattle.scms.specs.Decoder as scms
+use Rattle.scms.specs.Totals.{FrozenFirst, Unclipped}
+use Rattle.scms.specs.Claims.{CountZero, LeastTotals, Decided, BestWord}
+use Rattle.decoder.specs.declared.decoder.Answer.{Answer}
+use Rattle.decoder.specs.declared.decoder.Answer.the-variants.{Count, Refused}
+use Rattle.decoder.specs.Refusals.{decodeRefusal}
+
+-- an answer in document 01's terms: the number returned, and the values beside the buffers. The number is 0, which no row of the table has,
+-- where the frame was decoded
+pub record Returned : Type 0 where
+  pub number : ℕ
+  pub values : List ℕ
+
+-- the number and the values for each case of the answer: a decoded frame has the count of clipped entries, a refusal its number in the table
+-- 'Refused' and no value
+unfoldable pub returned : Answer → Returned
+returned (Count count) = record { number = 0; values = count ∷ [] }
+returned (Refused number) = record { number = number; values = [] }
+
+module _ (n : ℕ) (map cs : List ℕ) (qc qm : ℕ) (frame work symbols report : List ℕ) where
+  -- the number of the refusal, 0 where the call is accepted
+  abbrev number : ℕ
+  number = decodeRefusal n map cs qc qm frame work symbols report
+
+  -- the call is accepted: no row of the table fits
+  abbrev pub Accepted : Type 0
+  Accepted = number ≡ 0
+
+  -- the cap, 2^Qm − 1
+  abbrev cap : ℕ
+  cap = scms.capOf qm
+
+  -- what is made where the call is accepted, or on a refusal what is kept
+  abbrev either : List ℕ → List ℕ → List ℕ
+  either made kept = cond (eqb number 0) made kept
+
+  -- the answer: the refusal, or the count of clipped entries over all variable nodes
+  unfoldable pub decodeAnswer : Returned
+  decodeAnswer = record { number = number; values = either (scms.count n cap cs map frame ∷ []) [] }
+
+  -- the buffer for the symbols: those decided
+  unfoldable pub decodeSymbols : List ℕ
+  decodeSymbols = either (scms.symbols n cap cs map frame) symbols
+
+  -- the buffer for the report: for each place, the 64 penalties held when it was decided
+  unfoldable pub decodeReport : List ℕ
+  decodeReport = either (scms.report n cap cs map frame) report
+
+  -- the work buffer: all zeros
+  unfoldable pub decodeWork : List ℕ
+  decodeWork = either (replicate (65 * 2 ^ n) 0) work
+
+  -- The promise, for every input. First the answer r and the lent buffers at exit; the frame, the map and the coefficients are lent to be read only.
+  -- Then, where the call is accepted, the same without the cases: the count answered, the symbols, and what the report holds for each place. Then
+  -- what holds of these: the count is 0 exactly where the frame is unclipped, and always with Qm = 13; in an unclipped frame what is held for a
+  -- value is a least total, less the least of the 64; clipped or not, each decision; and in an unclipped frame, where all frozen places come first,
+  -- no word of the code has a smaller total than the word decided
+  pub record Decoded (workAfter symbolsAfter reportAfter : List ℕ) (r : Answer) : Type 0 where
+    pub answer : returned r ≡ decodeAnswer
+    pub symbols-are : symbolsAfter ≡ decodeSymbols
+    pub report-is : reportAfter ≡ decodeReport
+    pub work-is : workAfter ≡ decodeWork
+    pub counted : Accepted → returned r ≡ record { number = 0; values = scms.count n cap cs map frame ∷ [] }
+    pub decided : Accepted → symbolsAfter ≡ scms.symbols n cap cs map frame
+    pub reported : Accepted → (i : ℕ) → i < 2 ^ n → vectorAt reportAfter i ≡ scms.held n cap cs map frame i
+    pub count-zero : Accepted → CountZero n cap cs map frame
+    pub none-clipped : Accepted → qm ≡ 13 → scms.count n cap cs map frame ≡ 0
+    pub least-totals : Accepted → Unclipped n cap cs map frame → (i : ℕ) → i < 2 ^ n → LeastTotals n cap cs map frame i
+    pub decisions : Accepted → (i : ℕ) → i < 2 ^ n → Decided n cap cs map frame i
+    pub best-word : Accepted → Unclipped n cap cs map frame → FrozenFirst n map → BestWord n cap cs map frame

@@ -1,0 +1,69 @@
+// The decoder: a frame of penalties to the symbols of its word.
+use crate::block::decode_block;
+use crate::refusals::decode_refusal;
+use crate::refusals::largest;
+ghost use mathlib.Core.Path.{_≡_};
+ghost use lib.ListN.{length, replicate};
+ghost use Rattle.decoder.specs.Decode.{Decoded};
+
+// What `decode` answers.
+pub enum Answer {
+    // The frame was decoded: the count of clipped entries over all variable nodes.
+    Count(u32),
+    // It was refused: the number in document 01's table.
+    Refused(u8),
+}
+
+// Sets every number to 0.
+fn clear(s: &mut [u16])
+    ensures { λ _. ⌜ now (s .exit) ≡ replicate (length (now (s .entry))) 0 ⌝ }
+{
+    let mut i: usize = 0;
+    while i < s.len() {
+        s[i] = 0;
+        i += 1;
+    }
+}
+
+// Decodes a frame: 64 penalties of at most 2^qc - 1, a 0 among them, for each of the N = 2^n places, by the code with n layers, this map and
+// these coefficients, at the internal precision qm. Answers the count of clipped entries, with the symbols of the N places and the report (the
+// 64 penalties held for each place when it was decided) in the buffers lent for them, and the work buffer, of 65 N numbers, all zeros; or the
+// lowest refusal of 1, 2, 3, 4, 5, 6, 8 and 9 that fits, and every buffer as it came.
+pub fn decode(
+    n: usize,
+    map: &[u8],
+    coefs: &[u8],
+    qc: u32,
+    qm: u32,
+    frame: &[u16],
+    work: &mut [u16],
+    symbols: &mut [u8],
+    report: &mut [u16],
+) -> Answer
+    ensures { λ r. ⌜ Decoded n (now (map .entry)) (now (coefs .entry)) qc qm (now (frame .entry)) (now (work .entry)) (now (symbols .entry))
+        (now (report .entry)) (now (work .exit)) (now (symbols .exit)) (now (report .exit)) r ⌝ }
+{
+    let refused = decode_refusal(n, map, coefs, qc, qm, frame, work, symbols, report);
+    if refused != 0 {
+        return Answer::Refused(refused);
+    }
+    // The transform of the symbols decided: room for the longest word.
+    let mut word = [0u8; 256];
+    let size = map.len();
+    let cap = largest(qm);
+    let count = decode_block(
+        n,
+        0,
+        coefs,
+        map,
+        cap,
+        0,
+        frame,
+        work,
+        &mut word[..size],
+        symbols,
+        report,
+    );
+    clear(work);
+    Answer::Count(count)
+}

@@ -1,0 +1,76 @@
+// The nodes of one layer of a block: those of the kernels that join its two halves. Kernel t has the block's places t and half + t, and
+// coefficient start + t. The vectors of the frame and after them those of the work buffer are numbered from 0 on: the block's own are those
+// from number `at` on, and what the nodes give, the vectors of a half one layer on, is written after them. The frame is only read.
+use crate::nodes::check_node;
+use crate::nodes::variable_node;
+ghost use mathlib.Core.Path.{_≡_};
+ghost use mathlib.Core.List.{_++_};
+ghost use Prim.Native.Nat.{_+_, _*_, _/_, _≤_};
+ghost use lib.ListN.{length};
+ghost use Rattle.vector.specs.Vector.{vectorAt};
+ghost use Rattle.decoder.specs.Parts.{KernelsGiven, CheckNodesWritten, FirstSymbols, VariableNodesWritten};
+
+// Vector i of the frame and the work buffer.
+pub(crate) fn load_vector(frame: &[u16], work: &[u16], i: usize) -> [u16; 64]
+    requires { ⌜ (length (now frame) ≡ 64 * (length (now frame) / 64)) × (64 * (i + 1) ≤ length (now frame) + length (now work)) ⌝ }
+    ensures { λ r. ⌜ r ≡ vectorAt (now (frame .entry) ++ now (work .entry)) i ⌝ }
+{
+    let count = frame.len() / 64;
+    if i < count {
+        vector::load(frame, i)
+    } else {
+        vector::load(work, i - count)
+    }
+}
+
+// The check nodes of a block's kernels.
+pub(crate) fn check_nodes(
+    at: usize,
+    half: usize,
+    start: usize,
+    coefs: &[u8],
+    frame: &[u16],
+    work: &mut [u16],
+)
+    requires { ⌜ KernelsGiven at half start (now coefs) (now frame) (now work) ⌝ }
+    ensures { λ _. ⌜ CheckNodesWritten at half start (now (coefs .entry)) (now (frame .entry)) (now (work .entry)) (now (work .exit)) ⌝ }
+{
+    let to = at + (half + half) - frame.len() / 64;
+    let mut t: usize = 0;
+    while t < half {
+        let theta = load_vector(frame, work, at + t);
+        let phi = load_vector(frame, work, at + (half + t));
+        let r = check_node(theta, phi, coefs[start + t]);
+        vector::store(&r, to + t, work);
+        t += 1;
+    }
+}
+
+// The variable nodes of a block's kernels, with the symbols decided in its first half; returns the count of their clipped entries.
+pub(crate) fn variable_nodes(
+    at: usize,
+    half: usize,
+    start: usize,
+    coefs: &[u8],
+    cap: u16,
+    word: &[u8],
+    frame: &[u16],
+    work: &mut [u16],
+) -> u32
+    requires { ⌜ KernelsGiven at half start (now coefs) (now frame) (now work) × FirstSymbols half (now word) ⌝ }
+    ensures { λ r. ⌜ VariableNodesWritten at half start cap (now (coefs .entry)) (now (word .entry)) (now (frame .entry)) (now (work .entry)) (now (work .exit)) r ⌝ }
+{
+    let to = at + (half + half) - frame.len() / 64;
+    let mut count: u32 = 0;
+    let mut t: usize = 0;
+    while t < half {
+        let theta = load_vector(frame, work, at + t);
+        let phi = load_vector(frame, work, at + (half + t));
+        let r = variable_node(theta, phi, coefs[start + t], word[t], cap);
+        let llrs = r.llrs;
+        vector::store(&llrs, to + t, work);
+        count += r.count;
+        t += 1;
+    }
+    count
+}

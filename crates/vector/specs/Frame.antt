@@ -1,0 +1,10 @@
+-- A frame: 64 penalties for each place, one vector after the other.
+use Prim.Native.Nat.{ℕ, _-_, _/_, _^_, _≤_, _<_}
+use mathlib.Core.List.{List}
+use lib.ListN.{length, getD}
+use Rattle.vector.specs.Vector.{vectorAt, HasZero}
+
+-- a frame of penalties at this Qc: no entry above 2^Qc − 1, and a 0 in every 64
+pub record IsFrame (qc : ℕ) (frame : List ℕ) : Type 0 where
+  pub small : (j : ℕ) → j < length frame → getD frame j 0 ≤ 2 ^ qc - 1
+  pub zeros : (place : ℕ) → place < length frame / 64 → HasZero (vectorAt frame place)

@@ -1,0 +1,383 @@
+"""Decoder of SC-MS over GF(64), written directly from the scope paper.
+
+The decoder works layer by layer, layer 1 being next to the channel, and keeps
+the paper's names: layers l, kernels t, places theta and phi, the coefficient
+number (l - 1) * N/2 + t, and the precisions Qc and Qm.  Nothing here tries to
+be fast.  Field, transform and the refusals shared with the encoder are taken
+from scms.py.
+
+Two arrangements recur:
+- held[l][place] is the list of 64 penalties that a place has on the message
+  side of layer l; held[0] is the frame and held[n] is what decisions look at.
+- a lent buffer is given by its length alone, because its contents before the
+  call have no effect on the answer.
+
+Open points in the paper, and the reading chosen for each:
+
+ 1. Which numbers of the table the decoding call can give is not listed.  It
+    has the inputs of 1, 2, 3, 4, 5, 6, 8 and 9, tried in that order; 7 speaks
+    of symbols to encode or spread, and 10 to 12 of inputs it does not have.
+ 2. The needed lengths are not gathered in one place.  Each must be met
+    exactly: map N, coefficients n * N/2, frame 64 * N, work buffer 65 * N,
+    symbols N, report 64 * N; a longer buffer is refused like a shorter one.
+ 3. Whether the work buffer must hold zeros before the call is not said.  What
+    lent buffers hold beforehand is never looked at.
+ 4. Conditions 8 and 9 might be tried vector by vector.  The lowest number
+    that fits the whole frame counts, so a too large penalty anywhere gives 8
+    even if an earlier vector has no zero.
+ 5. The penalties "theta's" and "phi's" that a node of layer l reads are not
+    traced between layers.  They are those of the same two places after layer
+    l - 1, the frame's own for layer 1; the check node gives theta's vector
+    after layer l, the variable node phi's.
+ 6. Formula 10 of 001 is only cited.  The u of a variable node of layer l is
+    the symbol at theta on the message side of that layer: the decided symbols
+    taken through the kernels of layers n down to l + 1, as in encoding.
+ 7. When a node is worked out is left open.  Each is worked out once, as soon
+    as the place to decide next depends on it, and so each variable node
+    enters the count once.
+ 8. "What exceeds" is read strictly: an entry equal to 2^Qm - 1 after the
+    subtraction is kept and not counted.
+ 9. The report of a frozen place might be taken as special.  It is the same
+    vector held[n][place] as for a message place, and the place becoming 0
+    changes nothing in it.
+10. "Demand 3" is not defined in the paper.  "Demand 3's penalty" is read as
+    the penalty in the report, also at frozen places, with b over all 64
+    values.
+11. The worked frame with vectors of 0 and 1 names neither Qc nor Qm.  It is
+    checked for every pair of them that is not refused.
+"""
+
+import itertools
+import random
+
+from scms import (
+    ACCEPTED,
+    FIELD_SIZE,
+    REFUSED_COEFFICIENT,
+    REFUSED_LENGTH,
+    REFUSED_MAP_BYTE,
+    REFUSED_N,
+    REFUSED_NO_MESSAGE_PLACE,
+    coefficients_are_valid,
+    gf_product,
+    gf_sum,
+    map_bytes_are_valid,
+    message_places,
+    n_is_valid,
+    transform,
+)
+
+
+# --- Refusals ----------------------------------------------------------------
+
+# Numbers of the paper's table that only calls with a frame or a Qc can return.
+REFUSED_PRECISION = 3
+REFUSED_PENALTY = 8
+REFUSED_NO_ZERO = 9
+
+
+def vector(frame, place):
+    """The 64 penalties of one place of a frame, or of a report."""
+    return frame[FIELD_SIZE * place:FIELD_SIZE * (place + 1)]
+
+
+def precisions_are_valid(Qc, Qm):
+    """Whether Qc is from 1 to 5 and Qm from Qc to 13."""
+    return 1 <= Qc <= 5 and Qc <= Qm <= 13
+
+
+def penalties_are_valid(frame, Qc):
+    """Whether no penalty of the frame is above 2^Qc - 1."""
+    for penalty in frame:
+        if penalty > 2 ** Qc - 1:
+            return False
+    return True
+
+
+def vectors_have_zeros(N, frame):
+    """Whether each of the N vectors of the frame has a 0 in it."""
+    for place in range(N):
+        if 0 not in vector(frame, place):
+            return False
+    return True
+
+
+def decode_refusal(n, map, coefs, Qc, Qm, frame,
+                   work_length, symbols_length, report_length):
+    """The lowest refusal number that fits, or 0 if the frame is taken."""
+    if not n_is_valid(n):
+        return REFUSED_N
+    N = 2 ** n
+    if len(map) != N:
+        return REFUSED_LENGTH
+    if len(coefs) != n * (N // 2):
+        return REFUSED_LENGTH
+    if len(frame) != 64 * N:
+        return REFUSED_LENGTH
+    if work_length != 65 * N:
+        return REFUSED_LENGTH
+    if symbols_length != N:
+        return REFUSED_LENGTH
+    if report_length != 64 * N:
+        return REFUSED_LENGTH
+    if not precisions_are_valid(Qc, Qm):
+        return REFUSED_PRECISION
+    if not map_bytes_are_valid(map):
+        return REFUSED_MAP_BYTE
+    if message_places(map) == 0:
+        return REFUSED_NO_MESSAGE_PLACE
+    if not coefficients_are_valid(coefs):
+        return REFUSED_COEFFICIENT
+    if not penalties_are_valid(frame, Qc):
+        return REFUSED_PENALTY
+    if not vectors_have_zeros(N, frame):
+        return REFUSED_NO_ZERO
+    return ACCEPTED
+
+
+# --- Nodes -------------------------------------------------------------------
+
+def kernel(n, coefs, l, t):
+    """The two places theta and phi and the coefficient h of a kernel."""
+    N = 2 ** n
+    theta = 2 * t - (t % 2 ** (n - l))
+    phi = theta + 2 ** (n - l)
+    h = coefs[(l - 1) * (N // 2) + t]
+    return (theta, phi, h)
+
+
+def check_node(h, at_theta, at_phi):
+    """The 64 penalties that a check node gives for its theta."""
+    # phi's penalty at h * c depends on c alone, so it is looked up once per c.
+    phi_part = [at_phi[gf_product(h, c)] for c in range(FIELD_SIZE)]
+    given = []
+    for b in range(FIELD_SIZE):
+        given.append(min(at_theta[gf_sum(b, c)] + phi_part[c]
+                         for c in range(FIELD_SIZE)))
+    return given
+
+
+def variable_node(h, u, Qm, at_theta, at_phi):
+    """The 64 penalties that a variable node gives, and how many it clipped."""
+    sums = []
+    for c in range(FIELD_SIZE):
+        sums.append(at_theta[gf_sum(u, c)] + at_phi[gf_product(h, c)])
+    least = min(sums)
+    top = 2 ** Qm - 1
+    given = []
+    clipped = 0
+    for c in range(FIELD_SIZE):
+        penalty = sums[c] - least
+        if penalty > top:
+            penalty = top
+            clipped = clipped + 1
+        given.append(penalty)
+    return (given, clipped)
+
+
+# --- Layers ------------------------------------------------------------------
+
+def symbols_before_layer(n, coefs, decided, l):
+    """The decided symbols taken through the layers n down to l + 1."""
+    # With l = n no layer is applied.  Kernels that reach a place not yet
+    # decided are left out.
+    x = list(decided)
+    for later in range(n, l, -1):
+        for t in range(2 ** n // 2):
+            theta, phi, h = kernel(n, coefs, later, t)
+            if phi < len(x):
+                p = x[theta]
+                r = x[phi]
+                x[theta] = gf_sum(p, r)
+                x[phi] = gf_product(h, r)
+    return x
+
+
+def work_out_layer(n, coefs, Qm, held, decided, l):
+    """Work out the nodes of layer l now due; returns the entries clipped."""
+    # The place to decide next is the count of decided symbols.  In layer l it
+    # depends on the 2^(n-l) places of its block, blocks beginning at multiples
+    # of 2^(n-l), so the nodes are due when that place is the first of a block.
+    # The block's places are either all theta or all phi of their kernels.
+    place = len(decided)
+    distance = 2 ** (n - l)
+    if place % distance != 0:
+        return 0
+    clipped = 0
+    u = symbols_before_layer(n, coefs, decided, l)
+    for t in range(2 ** n // 2):
+        theta, phi, h = kernel(n, coefs, l, t)
+        at_theta = held[l - 1][theta]
+        at_phi = held[l - 1][phi]
+        if place <= theta < place + distance:
+            held[l][theta] = check_node(h, at_theta, at_phi)
+        if place <= phi < place + distance:
+            held[l][phi], more = variable_node(h, u[theta], Qm,
+                                               at_theta, at_phi)
+            clipped = clipped + more
+    return clipped
+
+
+# --- Decoder -----------------------------------------------------------------
+
+def decision(byte, penalties):
+    """The symbol of a place: 0 if frozen, else the first of least penalty."""
+    if byte == 1:
+        return 0
+    return penalties.index(min(penalties))
+
+
+def decode(n, map, coefs, Qc, Qm, frame,
+           work_length, symbols_length, report_length):
+    """Decode a frame; returns (refusal number, symbols, report, count)."""
+    refusal = decode_refusal(n, map, coefs, Qc, Qm, frame,
+                             work_length, symbols_length, report_length)
+    if refusal != ACCEPTED:
+        return (refusal, None, None, None)
+    N = 2 ** n
+    held = [[None] * N for l in range(n + 1)]
+    for place in range(N):
+        held[0][place] = vector(frame, place)
+    symbols = []
+    report = []
+    count = 0
+    for place in range(N):
+        for l in range(1, n + 1):
+            count = count + work_out_layer(n, coefs, Qm, held, symbols, l)
+        report.extend(held[n][place])
+        symbols.append(decision(map[place], held[n][place]))
+    return (ACCEPTED, symbols, report, count)
+
+
+# --- Least totals by enumeration ---------------------------------------------
+
+def total(frame, word):
+    """The total of a word: the frame's penalties of its N sent symbols."""
+    return sum(vector(frame, place)[word[place]] for place in range(len(word)))
+
+
+def least_totals_brute(n, coefs, frame, row):
+    """The least total of a row, over every choice of the places after it."""
+    least = None
+    free = 2 ** n - len(row)
+    for rest in itertools.product(range(FIELD_SIZE), repeat=free):
+        found = total(frame, transform(n, coefs, list(row) + list(rest)))
+        if least is None or found < least:
+            least = found
+    return least
+
+
+# --- Worked rows -------------------------------------------------------------
+
+def spike(value, elsewhere):
+    """64 penalties that are 0 at one value and the same at all others."""
+    penalties = [elsewhere] * FIELD_SIZE
+    penalties[value] = 0
+    return penalties
+
+
+def decode_lent(n, map, coefs, Qc, Qm, frame):
+    """Decode with buffers of the needed lengths; the frame must be taken."""
+    N = 2 ** n
+    number, symbols, report, count = decode(n, map, coefs, Qc, Qm, frame,
+                                            65 * N, N, 64 * N)
+    assert number == ACCEPTED
+    return (symbols, report, count)
+
+
+def listing(symbols, report):
+    """For each place: place, symbol, its penalty, least penalty of another."""
+    rows = []
+    for place in range(len(symbols)):
+        penalties = vector(report, place)
+        symbol = symbols[place]
+        others = penalties[:symbol] + penalties[symbol + 1:]
+        rows.append((place, symbol, penalties[symbol], min(others)))
+    return rows
+
+
+def random_frame(draw, N, Qc):
+    """A frame of random penalties up to 2^Qc - 1 with a 0 in each vector."""
+    frame = []
+    for place in range(N):
+        penalties = [draw.randrange(2 ** Qc) for s in range(FIELD_SIZE)]
+        penalties[draw.randrange(FIELD_SIZE)] = 0
+        frame.extend(penalties)
+    return frame
+
+
+def random_unclipped(draw, n, map):
+    """Coefficients, frame, symbols and report of a random unclipped frame."""
+    N = 2 ** n
+    while True:
+        coefs = [draw.randrange(1, 64) for number in range(n * (N // 2))]
+        Qc = draw.randrange(1, 6)
+        Qm = draw.randrange(Qc, 14)
+        frame = random_frame(draw, N, Qc)
+        symbols, report, count = decode_lent(n, map, coefs, Qc, Qm, frame)
+        if count == 0:
+            return (coefs, frame, symbols, report)
+
+
+def assert_least_totals(n, coefs, frame, symbols, report, place):
+    """Assert one place's reported penalties against the least totals."""
+    totals = []
+    for b in range(FIELD_SIZE):
+        row = symbols[:place] + [b]
+        totals.append(least_totals_brute(n, coefs, frame, row))
+    least = min(totals)
+    assert vector(report, place) == [found - least for found in totals]
+
+
+def self_test():
+    """Assert the paper's worked rows of the decoder, and its least totals."""
+    # N = 2, coefficient 1, place 0 frozen: a tie is decided for the smaller.
+    frame = spike(5, 1) + spike(4, 1)
+    for Qc in range(1, 6):
+        for Qm in range(Qc, 14):
+            symbols, report, count = decode_lent(1, [1, 0], [1], Qc, Qm, frame)
+            assert symbols == [0, 4]
+            assert vector(report, 0)[0] == 1
+            place_1 = [1] * FIELD_SIZE
+            place_1[4] = 0
+            place_1[5] = 0
+            assert vector(report, 1) == place_1
+            # No sum less the least is above 1, so nothing exceeds the cap.
+            assert count == 0
+
+    # The printed frame: N = 2, coefficient 2, place 0 frozen.
+    frame = spike(33, 3) + spike(1, 3)
+    symbols, report, count = decode_lent(1, [1, 0], [2], 5, 13, frame)
+    assert listing(symbols, report) == [(0, 0, 0, 3), (1, 33, 0, 6)]
+    assert count == 0
+    symbols, report, count = decode_lent(1, [1, 0], [2], 2, 2, frame)
+    assert listing(symbols, report) == [(0, 0, 0, 3), (1, 33, 0, 3)]
+    assert count == 63
+
+    draw = random.Random(64)
+
+    # Through all layers the decided symbols become the transform.
+    coefs = [draw.randrange(1, 64) for number in range(12)]
+    u = [draw.randrange(FIELD_SIZE) for place in range(8)]
+    assert symbols_before_layer(3, coefs, u, 0) == transform(3, coefs, u)
+
+    # Unclipped frames, N = 2: both places against the least totals.
+    for map in ([1, 0], [0, 0], [0, 1]):
+        for trial in range(5):
+            found = random_unclipped(draw, 1, map)
+            assert_least_totals(1, *found, 0)
+            assert_least_totals(1, *found, 1)
+
+    # Unclipped frames, N = 4 and 8: the last two places, whose variable nodes
+    # need symbols from one and two later layers.
+    for n, map in ((2, [0, 0, 0, 0]), (2, [1, 0, 1, 0]),
+                   (3, [1, 0, 0, 0, 1, 0, 0, 0])):
+        N = 2 ** n
+        found = random_unclipped(draw, n, map)
+        assert_least_totals(n, *found, N - 2)
+        assert_least_totals(n, *found, N - 1)
+
+
+if __name__ == "__main__":
+    self_test()
+    print("worked rows and least totals of the decoder hold")
