@@ -1,116 +1,71 @@
--- The laws of a frame of penalties: it is filled symbol by symbol, the 64 numbers of each place are that symbol's, none is above
+-- The laws of a frame of penalties: it is written symbol by symbol, the 64 numbers of each place are that symbol's, none is above
 -- 2^Qc − 1, and one of each 64 is 0.
-use mathlib.Core.Path.{_≡_, refl, sym, ap, ap₂, _∙_, subst}
-use mathlib.Core.List.{List, _++_}
-use Prim.Native.Nat.{ℕ, suc, _+_, _*_, _/_, _%_, _-_, _^_, _≤_, _<_}
+use mathlib.Core.Path.{_≡_, sym, ap, ap₂, _∙_, subst}
+use mathlib.Core.List.{List}
+use Prim.Native.Nat.{ℕ, _+_, _*_, _/_, _%_, _-_, _^_, _≤_, _<_}
+use native.Mathlib.Decide.{decLt}
 use native.Mathlib.Omega.{arith}
 use lib.IntN.{ℤ}
-use lib.ListN.{length, getD, take, drop, length-append, length-drop}
-use lib.Seq.{take-all, take-at, length-take-le, take-append-add, getD-take, getD-drop}
-use Rattle.vector.specs.Vector.{vectorAt, joined, HasZero}
+use lib.ListN.{length, getD, take, drop}
+use Rattle.vector.specs.Vector.{vectorAt, stored, HasZero}
 use Rattle.vector.specs.Frame.{IsFrame}
 use Rattle.vector.proofs.Laws.{length-joined, joined-part}
+use Rattle.vector.proofs.SliceLaws.{vector-entry, joined-by, stored-long, stored-is, stored-other}
 use Rattle.ccsk.specs.Samples.{llrs}
 use Rattle.ccsk.specs.Demap.{frameOf}
 use Rattle.ccsk.specs.Part.{placeLlrs}
-use Rattle.ccsk.specs.Parts.{chipsTwice, llrsBy, stored}
-use Rattle.ccsk.proofs.LlrLaws.{length-llrs, stored-llrs, by-base, llr-small, llr-zero}
+use Rattle.ccsk.specs.Parts.{chipsTwice, llrsBy}
+use Rattle.ccsk.proofs.LlrLaws.{length-llrs, by-base, llr-small, llr-zero}
 use Rattle.ccsk.proofs.PartLaws.{there, place-part}
-
--- the 64 entries from `at` on
-pub part-long : {A : Type 0} (xs : List A) (at : ℕ) → at + 64 ≤ length xs → length (take (at + 64 - at) (drop at xs)) ≡ 64
-part-long xs at l = let e : at + 64 - at ≡ 64 = omega arith in rw e (length-take-le 64 (drop at xs) (let d = length-drop at xs in omega arith))
 
 module _ (base top bottom qc : ℕ) (samples : List ℤ) where
   -- the 64 penalties of symbol i
   abbrev llrsAt : ℕ → List ℕ
   llrsAt i = llrs base top bottom qc (vectorAt samples i)
 
-  -- how far the frame is written: what stands before `at` are the penalties of the symbols before
-  pub record Written (buffer : List ℕ) (at : ℕ) : Type 0 where
-    pub whole : at % 64 ≡ 0
-    pub all-whole : length samples % 64 ≡ 0
-    pub within : at ≤ length samples
+  -- how far the frame is written: the first i vectors of the buffer are the penalties of the first i symbols
+  pub record Written (buffer : List ℕ) (i : ℕ) : Type 0 where
     pub long : length buffer ≡ length samples
-    pub parts : take at buffer ≡ joined (at / 64) llrsAt
+    pub vectors : (j : ℕ) → j < i → vectorAt buffer j ≡ llrsAt j
 
   -- where nothing is written
-  pub written-none : (buffer : List ℕ) → length buffer ≡ length samples → length samples % 64 ≡ 0 → Written buffer 0
-  unfolding joined
-  written-none buffer e w = record { whole = refl; all-whole = w; within = omega arith; long = e; parts = refl }
+  pub written-none : (buffer : List ℕ) → length buffer ≡ length samples → Written buffer 0
+  written-none buffer e = record { long = e; vectors = λ j k. absurd (omega arith) }
 
-  module _ (buffer : List ℕ) (at : ℕ) (h : Written buffer at) where
-    -- there is room for a whole vector
-    pub room : at < length samples → at + 64 ≤ length samples
-    room l = let a = h .whole in let b = h .all-whole in omega arith
+  module _ (buffer : List ℕ) (i : ℕ) (h : Written buffer i) where
+    -- one symbol more: a vector weighed from the symbol's samples by the chips of the base, and stored
+    module _ (l : i < length samples / 64) (k : ℕ) (chips v : List ℕ) (size : k ≡ 64) (twice : chips ≡ chipsTwice base)
+        (weighed : v ≡ llrsBy chips top bottom qc (take k (drop (64 * i) samples))) where
+      -- the vector is the symbol's penalties
+      symbol : v ≡ llrsAt i
+      unfolding vectorAt
+      symbol =
+          weighed ∙ ap₂ (λ (cs : List ℕ) (n : ℕ). llrsBy cs top bottom qc (take n (drop (64 * i) samples))) twice size
+          ∙ by-base base top bottom qc (take 64 (drop (64 * i) samples))
 
-    -- one symbol more
-    module _ (l : at < length samples) (v : List ℕ) (e : v ≡ llrs base top bottom qc (take 64 (drop at samples))) where
-      -- the buffer with the vector stored from `at` on
-      abbrev after : List ℕ
-      after = take at buffer ++ (stored v ++ drop 64 (drop at buffer))
-
-      -- what stands before it
-      before-long : length (take at buffer) ≡ at
-      before-long = length-take-le at buffer (let a = h .long in omega arith)
-
-      -- what is stored: the 64 penalties of the symbol there
-      vector : stored v ≡ llrs base top bottom qc (take 64 (drop at samples))
-      vector = ap stored e ∙ stored-llrs base top bottom qc (take 64 (drop at samples))
-
-      -- 64 of them
-      vector-long : length (stored v) ≡ 64
-      vector-long = ap length vector ∙ length-llrs base top bottom qc (take 64 (drop at samples))
-
-      -- the length stays
-      after-long : length after ≡ length samples
-      after-long =
-          let a = length-append (take at buffer) (stored v ++ drop 64 (drop at buffer)) in
-          let b = length-append (stored v) (drop 64 (drop at buffer)) in
-          let c = length-drop 64 (drop at buffer) in
-          let d = length-drop at buffer in
-          let f = h .long in
-          let g = before-long in
-          let i = vector-long in
-          let j = room l in
-          omega arith
-
-      -- what stands before the next vector
-      after-first : take (at + 64) after ≡ take at buffer ++ llrs base top bottom qc (take 64 (drop at samples))
-      after-first =
-          ap (λ (n : ℕ). take (n + 64) after) (sym before-long)
-          ∙ take-append-add (take at buffer) (stored v ++ drop 64 (drop at buffer)) 64
-          ∙ ap (λ (w : List ℕ). take at buffer ++ w) (take-at (stored v) (drop 64 (drop at buffer)) 64 vector-long ∙ vector)
+      -- the buffer has room for it
+      room : 64 * (i + 1) ≤ length buffer
+      room = let e = h .long in omega arith
 
       -- so one symbol more is written
-      written-more : Written after (at + 64)
-      unfolding joined vectorAt
-      written-more =
-          let start : at ≡ 64 * (at / 64) = (let a = h .whole in omega arith) in
-          let next : suc (at / 64) ≡ (at + 64) / 64 = omega arith in
-          record {
-            whole = (let a = h .whole in omega arith);
-            all-whole = h .all-whole;
-            within = room l;
-            long = after-long;
-            parts = after-first
-                ∙ ap₂ (λ (w : List ℕ) (n : ℕ). w ++ llrs base top bottom qc (take 64 (drop n samples))) (h .parts) start
-                ∙ ap (λ (n : ℕ). joined n llrsAt) next;
-          }
-
-    -- the same from what the parts leave: a vector of 64 weighed by the chips of the base, and stored
-    pub written-next : at < length samples → (k : ℕ) (chips v w : List ℕ) → k ≡ 64 → chips ≡ chipsTwice base → v ≡ llrsBy chips top bottom qc (take k (drop at samples)) → w ≡ stored v
-        → Written (take at buffer ++ (w ++ drop k (drop at buffer))) (at + 64)
-    written-next l k chips v w size twice e f =
-        let made = e ∙ ap₂ (λ (cs : List ℕ) (n : ℕ). llrsBy cs top bottom qc (take n (drop at samples))) twice size ∙ by-base base top bottom qc (take 64 (drop at samples)) in
-        subst (λ (b : List ℕ). Written b (at + 64)) (sym (ap₂ (λ (x : List ℕ) (n : ℕ). take at buffer ++ (x ++ drop n (drop at buffer))) f size)) (written-more l v made)
+      pub written-more : (after : List ℕ) → after ≡ stored buffer i v → Written after (i + 1)
+      written-more after e = subst (λ (b : List ℕ). Written b (i + 1)) (sym e) (record {
+        long = stored-long buffer i room v ∙ h .long;
+        vectors = λ j m. go j m (decLt j i);
+      })
+        where
+          go : (j : ℕ) → j < i + 1 → Dec (j < i) → vectorAt (stored buffer i v) j ≡ llrsAt j
+          go j m (yes s) = stored-other buffer i room v j (λ z. absurd (omega arith)) ∙ h .vectors j s
+          go j m (no s) =
+              let q : i ≡ j = omega arith in
+              subst (λ (n : ℕ). vectorAt (stored buffer i v) n ≡ llrsAt n) q (stored-is buffer i room v (ap length symbol ∙ length-llrs base top bottom qc (vectorAt samples i)) ∙ symbol)
 
     -- where all is written
-    pub written-all : length samples ≤ at → buffer ≡ frameOf base top bottom qc samples
+    pub written-all : length samples % 64 ≡ 0 → length samples / 64 ≤ i → buffer ≡ frameOf base top bottom qc samples
     unfolding frameOf
-    written-all l =
-        let n : at ≡ length samples = (let a = h .within in omega arith) in
-        sym (take-all at buffer (let k = h .long in omega arith)) ∙ h .parts ∙ ap (λ (k : ℕ). joined (k / 64) llrsAt) n
+    written-all whole l =
+        let e = h .long in
+        joined-by (length samples / 64) llrsAt buffer (omega arith) (λ j k. h .vectors j (omega arith))
 
   -- the frame has 64 penalties for each symbol
   pub length-frame : length (frameOf base top bottom qc samples) ≡ 64 * (length samples / 64)
@@ -130,10 +85,7 @@ module _ (base top bottom qc : ℕ) (samples : List ℤ) where
 
   -- entry 64 × i + v is the penalty of v for symbol i
   pub frame-entry : (i v : ℕ) → i < length samples / 64 → v < 64 → getD (frameOf base top bottom qc samples) (64 * i + v) 0 ≡ getD (llrsAt i) v 0
-  unfolding vectorAt
-  frame-entry i v l s =
-      sym (getD-drop (64 * i) (frameOf base top bottom qc samples) v 0) ∙ sym (getD-take 64 (drop (64 * i) (frameOf base top bottom qc samples)) v 0 s)
-      ∙ ap (λ (w : List ℕ). getD w v 0) (frame-part i l)
+  frame-entry i v l s = sym (vector-entry (frameOf base top bottom qc samples) i v s) ∙ ap (λ (w : List ℕ). getD w v 0) (frame-part i l)
 
   -- it is a frame: no entry is above 2^Qc − 1, and each 64 hold a 0
   pub frame-fits : IsFrame qc (frameOf base top bottom qc samples)

@@ -12,7 +12,7 @@ use Rattle.vector.specs.Vector.{sumTo, lessLeast}
 use Rattle.vector.proofs.Laws.{length-tabulate, getD-tabulate, tabulate-ext, sum-ext, sum-more, less-least-zero}
 use Rattle.ccsk.specs.Chips.{chip, symbolChip}
 use Rattle.ccsk.specs.Samples.{hardChip, magnitude, added, raw, rawLlrs, quantised, quantisedLlrs, llrs}
-use Rattle.ccsk.specs.Parts.{chipsTwice, addedAt, rawTo, withSample, llrsBy, stored}
+use Rattle.ccsk.specs.Parts.{chipsTwice, addedAt, rawTo, withSample, llrsBy}
 
 -- a sample adds at most its size
 pub added-le : (c h n : ℕ) → added c h n ≤ n
@@ -59,11 +59,6 @@ module _ (base top bottom qc : ℕ) (samples : List ℤ) where
   pub length-llrs : length (llrs base top bottom qc samples) ≡ 64
   unfolding llrs quantisedLlrs
   length-llrs = length-tabulate 64 _
-
-  -- the entries as they are stored are all of it
-  pub stored-llrs : stored (llrs base top bottom qc samples) ≡ llrs base top bottom qc samples
-  unfolding stored llrs quantisedLlrs
-  stored-llrs = tabulate-ext 64 _ _ (λ s l. getD-tabulate 0 64 _ s l)
 
   -- one of them, from the raw penalties less the least
   pub llr-at : (s : ℕ) → s < 64 → getD (llrs base top bottom qc samples) s 0 ≡ quantised top bottom qc (getD (lessLeast (rawLlrs base samples)) s 0)

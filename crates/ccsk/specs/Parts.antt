@@ -42,10 +42,6 @@ pub record Scale (top bottom qc : ℕ) : Type 0 where
 abbrev pub llrsBy : List ℕ → (top bottom qc : ℕ) → List ℤ → List ℕ
 llrsBy chips top bottom qc samples = quantisedLlrs top bottom qc (lessLeast (rawTo chips samples 64))
 
--- the 64 entries of a vector
-unfoldable pub stored : List ℕ → List ℕ
-stored v = tabulate 64 (λ s. getD v s 0)
-
 -- what the demapper is given for all symbols: whole vectors of samples, room for as many penalties, and a scale that is taken
 pub record Symbols (top bottom qc : ℕ) (samples : List ℤ) (buffer : List ℕ) : Type 0 where
   pub whole : length samples % 64 ≡ 0

@@ -3,9 +3,8 @@ use crate::chips::chips_twice;
 use crate::chips::turned;
 use crate::samples::symbol_llrs;
 ghost use mathlib.Core.Path.{_≡_};
-ghost use lib.ListN.{length};
 ghost use Rattle.ccsk.specs.Demap.{frameOf, demapRefusal, Demapped};
-ghost use Rattle.ccsk.specs.Parts.{stored, Symbols};
+ghost use Rattle.ccsk.specs.Parts.{Symbols};
 
 // The number by which `demap` refuses, 0 where it takes its input: the first test that fits, in document 01's order.
 fn demap_refusal(base: u64, samples: &[i8], top: u32, bottom: u32, qc: u32, llrs: &[u16]) -> u8
@@ -39,30 +38,20 @@ fn demap_refusal(base: u64, samples: &[i8], top: u32, bottom: u32, qc: u32, llrs
     0
 }
 
-// Writes a vector of 64 numbers.
-fn store(v: &[u16; 64], to: &mut [u16])
-    requires { ⌜ length (now to) ≡ 64 ⌝ }
-    ensures { λ _. ⌜ now (to .exit) ≡ stored (now (v .entry)) ⌝ }
-{
-    let mut s: usize = 0;
-    while s < 64 {
-        to[s] = v[s];
-        s += 1;
-    }
-}
-
 // Writes the penalties of every symbol, 64 for each.
 fn write_llrs(base: u64, samples: &[i8], top: u32, bottom: u32, qc: u32, llrs: &mut [u16])
     requires { ⌜ Symbols top bottom qc (now samples) (now llrs) ⌝ }
     ensures { λ _. ⌜ now (llrs .exit) ≡ frameOf base top bottom qc (now (samples .entry)) ⌝ }
 {
     let chips = chips_twice(base);
-    let mut at: usize = 0;
-    while at < samples.len() {
+    let count = samples.len() / 64;
+    let mut i: usize = 0;
+    while i < count {
+        let at = 64 * i;
         let end = at + 64;
         let v = symbol_llrs(&chips, &samples[at..end], top, bottom, qc);
-        store(&v, &mut llrs[at..end]);
-        at = end;
+        vector::store(&v, i, llrs);
+        i += 1;
     }
 }
 

@@ -1,6 +1,6 @@
 // From the 64 samples of a symbol to its 64 penalties.
 ghost use mathlib.Core.Path.{_≡_};
-ghost use Prim.Native.Nat.{_*_, _/_, _-_, _^_, _≤_, _<_, min};
+ghost use Prim.Native.Nat.{_*_, _/_, _^_, _≤_, _<_};
 ghost use lib.ListN.{length};
 ghost use Rattle.ccsk.specs.Samples.{hardChip, magnitude, added, quantised, quantisedLlrs};
 ghost use Rattle.ccsk.specs.Parts.{rawTo, withSample, OneSample, Scale, llrsBy};
@@ -69,25 +69,17 @@ fn rounded_down(x: u32, bottom: u32) -> u32
     x / bottom
 }
 
-// The largest penalty, 2^Qc - 1.
-fn largest(qc: u32) -> u32
-    requires { ⌜ qc ≤ 5 ⌝ }
-    ensures { λ r. ⌜ (r ≡ 2 ^ qc - 1) × (r ≤ 31) ⌝ }
-{
-    (1 << qc) - 1
-}
-
 // A number times the gain, top over bottom, rounded down and capped.
 fn quantised(x: u16, top: u32, bottom: u32, qc: u32) -> u16
     requires { ⌜ Scale top bottom qc ⌝ }
     ensures { λ r. ⌜ r ≡ quantised top bottom qc x ⌝ }
 {
     let scaled = rounded_down((x as u32) * top, bottom);
-    let cap = largest(qc);
-    if scaled < cap {
+    let cap = vector::largest(qc);
+    if scaled < cap as u32 {
         scaled as u16
     } else {
-        cap as u16
+        cap
     }
 }
 

@@ -1,20 +1,20 @@
 -- What each call inside `decode_block` is given, and what they leave together.
 use mathlib.Core.Path.{_≡_, refl, sym, ap, ap₂, _∙_, subst}
 use mathlib.Core.List.{List, [], _∷_, _++_}
-use Prim.Native.Nat.{ℕ, zero, suc, _+_, _*_, _-_, _/_, _^_, _≤_, _<_}
+use Prim.Native.Nat.{ℕ, zero, _+_, _*_, _-_, _/_, _^_, _≤_, _<_}
 use native.Mathlib.Nat.{le-trans, add-zero, mul-le-mul}
 use native.Mathlib.Omega.{arith}
 use lib.Pow.{pow-mono, pow-pos}
-use lib.ListN.{length, getD, take, drop, length-append, length-drop, List·getD-append}
+use lib.ListN.{length, getD, take, drop, length-drop, List·getD-append}
 use lib.Seq.{length-take-le}
 use Rattle.vector.specs.Vector.{vectorAt, AtMost}
 use Rattle.gf64.specs.Field.{NonZero}
 use Rattle.polar.specs.Code.{kindOf, Coefficients}
-use Rattle.polar.specs.Tree.{Tree, All, leaves, treeOf, Place, here, at, number}
-use Rattle.polar.specs.Halves.{transformTree, coefsAt}
+use Rattle.polar.specs.Tree.{All, leaves, treeOf, here, at, number}
+use Rattle.polar.specs.Halves.{coefsAt}
 use Rattle.polar.specs.Parts.{Block}
 use Rattle.polar.specs.Join.{Halves, Joined}
-use Rattle.polar.proofs.Numbers.{two-pow, half-pow, lt-or-le}
+use Rattle.polar.proofs.Numbers.{two-pow}
 use Rattle.polar.proofs.TreeLaws.{all-leaves}
 use Rattle.polar.proofs.OneToOne.{Symbol, transform-symbols, coef-nonzero}
 use Rattle.polar.proofs.BlockLaws as polar

@@ -1,35 +1,34 @@
 -- What `decode` gives its parts, what it is left with, and its promise.
-use mathlib.Core.Path.{_≡_, refl, sym, ap, ap₂, _∙_, subst}
+use mathlib.Core.Path.{_≡_, sym, ap, _∙_, subst}
 use mathlib.Core.List.{List, [], _∷_, _++_}
 use Prim.Native.Nat.{ℕ, _+_, _*_, _/_, _^_, _≤_, _<_}
-use native.Mathlib.Nat.{le-trans, zero-add}
+use native.Mathlib.Nat.{zero-add}
 use native.Mathlib.Omega.{arith}
-use lib.ListN.{length, getD, replicate}
+use lib.ListN.{length, replicate}
 use lib.Pow.{pow-mono}
 use Rattle.refusal.proofs.Laws.{when-taken, when-refused}
 use Rattle.vector.specs.Vector.{tabulate, vectorAt}
 use Rattle.vector.proofs.Laws.{getD-tabulate}
 use Rattle.vector.proofs.SliceLaws.{vector-first, joined-by}
-use Rattle.polar.specs.Tree.{Tree, treeOf, leaves, Place, at, number}
-use Rattle.polar.specs.Halves.{coefsAt}
+use Rattle.polar.specs.Tree.{at, number}
 use Rattle.polar.specs.Parts.{Block}
 use Rattle.polar.proofs.TreeLaws.{number-lt, place-of, treeOf-at, leaves-number}
 use Rattle.polar.proofs.EncodeLaws.{word-block}
 use Rattle.scms.specs.Decoder as scms
 use Rattle.scms.specs.Decoder.{capOf}
 use Rattle.scms.specs.Totals.{EachZero}
-use Rattle.scms.specs.Halves.{Vectors, BlockAnswer, decodeTree, frameTree, decodeHalves}
+use Rattle.scms.specs.Halves.{Vectors, frameTree, decodeHalves}
 use Rattle.scms.proofs.ByHalves.{same-answer}
 use Rattle.scms.proofs.AnswerLaws.{report-place}
 use Rattle.scms.proofs.Unclipped.{count-zero, never-clipped}
 use Rattle.scms.proofs.LeastTotals.{least-totals}
 use Rattle.scms.proofs.Decisions.{decided}
 use Rattle.scms.proofs.BestWord.{best-word}
-use Rattle.decoder.specs.Parts.{BlockVector, BlockGiven, vectorsFrom, blockAnswer, BlockDecoded}
+use Rattle.decoder.specs.Parts.{BlockVector, BlockGiven, vectorsFrom, BlockDecoded}
 use Rattle.decoder.specs.Refusals.{decodeRefusal, Decodable}
 use Rattle.decoder.specs.declared.decoder.Answer as enum
 use Rattle.decoder.specs.declared.decoder.Answer.the-variants.{Count, Refused}
-use Rattle.decoder.specs.Decode.{Returned, returned, decodeAnswer, decodeSymbols, decodeReport, decodeWork, Decoded}
+use Rattle.decoder.specs.Decode.{returned, decodeAnswer, decodeSymbols, decodeReport, decodeWork, Decoded}
 use Rattle.decoder.proofs.RefusalLaws.{taken, each-zero, each-cap, each-31}
 use Rattle.decoder.proofs.HalvesLaws.{vectors-at, vectors-by}
 

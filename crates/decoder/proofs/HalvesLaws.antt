@@ -1,19 +1,19 @@
 -- One step of the decoder by halves: what a block leaves, from what its halves left and the nodes of the kernels that join them.
-use mathlib.Core.Path.{_≡_, refl, sym, ap, ap₂, _∙_, subst}
+use mathlib.Core.Path.{_≡_, sym, ap, ap₂, _∙_, subst}
 use mathlib.Core.List.{List, [], _++_}
-use Prim.Native.Nat.{ℕ, zero, suc, _+_, _*_, _-_, _/_, _^_, _≤_, _<_}
+use Prim.Native.Nat.{ℕ, suc, _+_, _*_, _-_, _/_, _^_, _≤_, _<_}
 use native.Mathlib.Nat.{zero-add, suc-mul, mul-add}
 use native.Mathlib.Omega.{arith}
 use lib.ListN.{length, getD, take, drop}
-use Rattle.vector.specs.Vector.{tabulate, vectorAt, sumTo}
-use Rattle.vector.proofs.Laws.{getD-tabulate, sum-ext}
-use Rattle.polar.specs.Tree.{Tree, map3, map4, treeSum, treeOf, leaves, Place, first, second, at, number}
-use Rattle.polar.specs.Halves.{join, coefsAt}
+use Rattle.vector.specs.Vector.{tabulate, vectorAt}
+use Rattle.vector.proofs.Laws.{getD-tabulate}
+use Rattle.polar.specs.Tree.{Tree, map3, map4, treeOf, leaves, Place, first, second, at, number}
+use Rattle.polar.specs.Halves.{coefsAt}
 use Rattle.polar.specs.Join.{Joined}
 use Rattle.polar.proofs.Numbers.{two-pow}
-use Rattle.polar.proofs.TreeLaws.{number-lt, map3-at, map4-at, ext-at, treeOf-at, leaves-at, length-leaves}
+use Rattle.polar.proofs.TreeLaws.{number-lt, map3-at, map4-at, ext-at, treeOf-at, leaves-at}
 use Rattle.scms.specs.Nodes.{checkNode, variableNode, clippedEntries}
-use Rattle.scms.specs.Halves.{Vectors, BlockAnswer, checkNodes, variableNodes, clippedNodes, decodeTree}
+use Rattle.scms.specs.Halves.{Vectors, checkNodes, variableNodes, clippedNodes, decodeTree}
 use Rattle.scms.proofs.TreeSums.{tree-sum}
 use Rattle.decoder.specs.Parts.{AreCheckNodes, AreVariableNodes, clippedTo, vectorsFrom, blockAnswer, BlockDecoded}
 use Rattle.polar.proofs.BlockLaws.{coef-at, joined-leaves}

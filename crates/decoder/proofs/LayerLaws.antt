@@ -11,11 +11,6 @@ use Rattle.polar.proofs.Numbers.{getD-any}
 use Rattle.scms.specs.Nodes.{checkNode, variableNode}
 use Rattle.decoder.specs.Parts.{Small, Kept, KernelsGiven}
 
--- the vector that `store` wrote is there
-pub stored-is : (xs : List ℕ) (i : ℕ) (v : List ℕ) → 64 * (i + 1) ≤ length xs → length v ≡ 64 → vectorAt (stored xs i v) i ≡ v
-stored-is xs i v l e =
-    ap (λ (ys : List ℕ). vectorAt ys i) (stored-there xs i l v) ∙ with-there xs i (λ c. getD v c 0) l ∙ entries-of v e
-
 -- the nodes of kernel t, from a list with the block's vectors: the check node
 abbrev pub checkAt : (at half start : ℕ) (cs source : List ℕ) (t : ℕ) → List ℕ
 checkAt at half start cs source t = checkNode (getD cs (start + t) 1) (vectorAt source (at + t)) (vectorAt source (at + (half + t)))

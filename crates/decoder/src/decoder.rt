@@ -1,7 +1,6 @@
 // The decoder: a frame of penalties to the symbols of its word.
 use crate::block::decode_block;
 use crate::refusals::decode_refusal;
-use crate::refusals::largest;
 ghost use mathlib.Core.Path.{_≡_};
 ghost use lib.ListN.{length, replicate};
 ghost use Rattle.decoder.specs.Decode.{Decoded};
@@ -50,7 +49,7 @@ pub fn decode(
     // The transform of the symbols decided: room for the longest word.
     let mut word = [0u8; 256];
     let size = map.len();
-    let cap = largest(qm);
+    let cap = vector::largest(qm);
     let count = decode_block(
         n,
         0,

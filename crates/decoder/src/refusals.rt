@@ -1,20 +1,11 @@
 // The refusals of `decode`: the first test that fits, in the order of document 01's table 'Refused'.
 ghost use mathlib.Core.Path.{_≡_};
-ghost use Prim.Native.Nat.{_/_, _≤_};
+ghost use Prim.Native.Nat.{_/_};
 ghost use lib.ListN.{length};
 ghost use Rattle.refusal.specs.Table.{refusalOf};
 ghost use Rattle.refusal.specs.Tests.{anyOutside};
 ghost use Rattle.vector.specs.Vector.{vectorAt};
-ghost use Rattle.scms.specs.Decoder.{capOf};
 ghost use Rattle.decoder.specs.Refusals.{noZero, anyTo, sizeTable, contentTable, decodeRefusal};
-
-// The largest penalty of a precision q, 2^q - 1.
-pub(crate) fn largest(q: u32) -> u16
-    requires { ⌜ q ≤ 13 ⌝ }
-    ensures { λ r. ⌜ (r ≡ capOf q) × (r ≤ 8191) ⌝ }
-{
-    (1 << q) - 1
-}
 
 // Whether some number of the frame is above `most`.
 fn any_above(frame: &[u16], most: u16) -> bool
@@ -105,7 +96,7 @@ fn content_refusal(map: &[u8], coefs: &[u8], qc: u32, qm: u32, frame: &[u16]) ->
     if refusal::any_outside(coefs, 1, 63) {
         return 6;
     }
-    let above = any_above(frame, largest(qc));
+    let above = any_above(frame, vector::largest(qc));
     let without_zero = any_without_zero(frame);
     if above {
         return 8;

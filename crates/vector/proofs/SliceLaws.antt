@@ -15,7 +15,7 @@ use Rattle.vector.proofs.Laws.{length-tabulate, getD-tabulate, tabulate
 -- ---- where a vector lies
 
 -- a vector of a slice has 64 entries
-pub vector-long : (xs : List ℕ) (i : ℕ) → 64 * (i + 1) ≤ length xs → length (vectorAt xs i) ≡ 64
+pub vector-long : {A : Type 0} (xs : List A) (i : ℕ) → 64 * (i + 1) ≤ length xs → length (vectorAt xs i) ≡ 64
 unfolding vectorAt
 vector-long xs i l = length-take-le 64 (drop (64 * i) xs) (simp length-drop (omega arith))
 
@@ -153,6 +153,19 @@ module _ (xs : List ℕ) (i : ℕ) (l : 64 * (i + 1) ≤ length xs) where
   pub stored-there : (v : List ℕ) → stored xs i v ≡ withVector xs i (λ c. getD v c 0)
   unfolding stored
   stored-there v = rw (lt-ltb i (length xs / 64) fits)
+
+  module _ (v : List ℕ) where
+    -- the slice keeps its length
+    pub stored-long : length (stored xs i v) ≡ length xs
+    stored-long = ap length (stored-there v) ∙ with-long xs i (λ c. getD v c 0) l
+
+    -- the vector is there
+    pub stored-is : length v ≡ 64 → vectorAt (stored xs i v) i ≡ v
+    stored-is e = ap (λ (ys : List ℕ). vectorAt ys i) (stored-there v) ∙ with-there xs i (λ c. getD v c 0) l ∙ entries-of v e
+
+    -- and every other is as it was
+    pub stored-other : (j : ℕ) → (j ≡ i → ⊥) → vectorAt (stored xs i v) j ≡ vectorAt xs j
+    stored-other j ne = ap (λ (ys : List ℕ). vectorAt ys j) (stored-there v) ∙ with-other xs i (λ c. getD v c 0) l j ne
 
 -- where the slice has no such vector, `load` gives zeros
 pub loaded-none : (xs : List ℕ) (i : ℕ) → length xs / 64 ≤ i → loaded xs i ≡ replicate 64 0

@@ -1,6 +1,7 @@
 // Vectors of 64 numbers, one for each value of a symbol: the least entry, each entry less the least, and the vectors of a slice.
 ghost use mathlib.Core.Path.{_≡_};
 ghost use Rattle.vector.specs.Vector.{least, lessLeast, loaded, stored};
+ghost use Rattle.vector.specs.Frame.{largest};
 
 // The least of the 64 entries.
 pub fn least_of(v: &[u16; 64]) -> u16
@@ -62,4 +63,14 @@ pub fn store(v: &[u16; 64], i: usize, s: &mut [u16])
         s[at + c] = v[c];
         c += 1;
     }
+}
+
+// The largest penalty of a precision of q bits, 2^q - 1; of 13 bits where q is more.
+pub fn largest(q: u32) -> u16
+    ensures { λ r. ⌜ r ≡ largest q ⌝ }
+{
+    if 13 < q {
+        return 8191;
+    }
+    (1 << q) - 1
 }

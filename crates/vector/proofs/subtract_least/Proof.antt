@@ -15,23 +15,18 @@ Inv-loop v taken r₀ b₀ r b = Filled 64 (λ i. getD v i 0 - least v) r b
 abbrev μ-loop : tie.MeasureT-loop
 μ-loop v taken r₀ b₀ r b = 64 - b
 
--- src/lib.rt:25:9
 least-of-requires : tie.Need-least-of-requires Inv-loop μ-loop
 least-of-requires c κs = search needs
 
--- src/lib.rt:28:5
 loop-holds : tie.Need-loop-holds Inv-loop μ-loop
 loop-holds c = fill-none refl
 
--- src/lib.rt:29:16
 mul-r : tie.Need-mul-r Inv-loop μ-loop
 mul-r c = search needs
 
--- src/lib.rt:29:16
 element-copy-out-r : tie.Need-element-copy-out-r Inv-loop μ-loop
 element-copy-out-r c = search needs
 
--- src/lib.rt:29:16
 sub-r : tie.Need-sub-r Inv-loop μ-loop
 sub-r c =
     let v = c .before .before .before .before .args .v .now in
@@ -39,30 +34,24 @@ sub-r c =
     let e = c .before .before .before .least-of .ensures in
     omega (arith, least-le v b (omega arith))
 
--- src/lib.rt:29:9
 mul-r-2 : tie.Need-mul-r-2 Inv-loop μ-loop
 mul-r-2 c = search needs
 
--- src/lib.rt:29:9
 array-write-r : tie.Need-array-write-r Inv-loop μ-loop
 array-write-r c = search needs
 
--- src/lib.rt:30:9
 add-b : tie.Need-add-b Inv-loop μ-loop
 add-b c = search needs
 
--- src/lib.rt:28:5
 loop-less : tie.Need-loop-less Inv-loop μ-loop
 loop-less c = search needs
 
--- src/lib.rt:28:5
 loop-again : tie.Need-loop-again Inv-loop μ-loop
 loop-again c =
     let v = c .before .before .before .before .args .v .now in
     let at = c .before .before .loop in
     fill-more (at .inv) (omega arith) (ap (λ (x : ℕ). getD v (at .b) 0 - x) (c .before .before .before .least-of .ensures))
 
--- src/lib.rt:22:1
 returns : tie.Need-returns Inv-loop μ-loop
 unfolding lessLeast
 returns c = fill-all (c .before .loop .inv) (c .loop-test .left)

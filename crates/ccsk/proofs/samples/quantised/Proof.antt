@@ -3,6 +3,7 @@ use mathlib.Core.Path.{_≡_, sym, ap₂, _∙_}
 use Prim.Native.Nat.{_*_, _-_, _≤_, min}
 use native.Mathlib.Omega.{arith}
 use native.Mathlib.Nat.{min-eq-left, min-eq-right, le-of-lt, mul-le-mul}
+use Rattle.vector.proofs.FrameLaws.{largest-is}
 use Rattle.ccsk.specs.Samples.{quantised}
 use borrow.Author.Needs.{needs}
 use Rattle.ccsk.proofs.samples.quantised.Statement.{statement}
@@ -15,7 +16,10 @@ small c = let l = c .fits .x .fits in mul-le-mul {n₁ = c .args .x} {m₁ = c .
 -- the quotient and the cap, as the definition has them
 smaller : (c : tie.After-largest) → quantised (c .before .before .args .top) (c .before .before .args .bottom) (c .before .before .args .qc) (c .before .before .args .x) ≡ min (c .before .rounded-down .result) (c .largest .result)
 unfolding quantised
-smaller c = sym (ap₂ min (c .before .rounded-down .ensures) (c .largest .ensures .0))
+smaller c =
+    let qc = c .before .before .args .qc in
+    let l = c .before .before .pre .precision .most in
+    sym (ap₂ min (c .before .rounded-down .ensures) (c .largest .ensures ∙ largest-is qc (omega arith)))
 
 mul-rounded-down : tie.Need-mul-rounded-down
 mul-rounded-down c = let l = small c in omega arith
@@ -26,11 +30,11 @@ rounded-down-requires c κs = let l = small c in let b = c .pre .gain-bottom in 
 largest-requires : tie.Need-largest-requires
 largest-requires c κs = search needs
 
+cast-if1 : tie.Need-cast-if1
+cast-if1 c = search needs
+
 cast-result : tie.Need-cast-result
 cast-result c = search needs
-
-cast-result-2 : tie.Need-cast-result-2
-cast-result-2 c = search needs
 
 returns : tie.Need-returns
 returns c = sym (smaller (c .before) ∙ min-eq-left (le-of-lt (c .if1 .taken)))
@@ -45,7 +49,7 @@ quantised-spec =
     mul-rounded-down
     rounded-down-requires
     largest-requires
+    cast-if1
     cast-result
-    cast-result-2
     returns
     returns-2)

@@ -1,13 +1,12 @@
 -- `decode_block` meets its contract: the halves are decoded one after the other, one layer less each, from the nodes of the kernels that join
 -- them (BlockLaws).
 use mathlib.Core.Path.{_≡_, refl, sym, _∙_}
-use mathlib.Core.List.{List, _++_}
-use Prim.Native.Nat.{ℕ, _+_, _-_, _*_, _/_, _≤_, _<_}
+use Prim.Native.Nat.{ℕ, _+_, _-_, _*_, _/_, _<_}
 use native.Mathlib.Omega.{arith}
 use borrow.Author.Needs.{needs}
 use borrow.Fn.Kinds.{In}
 use borrow.Fn.PlainCycle.{Measures, is, falls, and}
-use lib.ListN.{length, take, drop}
+use lib.ListN.{length}
 use lib.Seq.{length-take-le}
 use Rattle.polar.proofs.BlockLaws as polar
 use Rattle.decoder.proofs.BlockLaws as laws

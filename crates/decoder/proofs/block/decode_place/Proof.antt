@@ -8,7 +8,8 @@ use lib.ListN.{length, getD}
 use Rattle.vector.specs.Vector.{vectorAt}
 use Rattle.polar.specs.Code.{kindOf}
 use Rattle.scms.specs.Decision.{decision}
-use Rattle.decoder.proofs.LayerLaws.{stored-is, set-only}
+use Rattle.vector.proofs.SliceLaws.{stored-is}
+use Rattle.decoder.proofs.LayerLaws.{set-only}
 use Rattle.decoder.proofs.block.decode_place.Statement.{statement}
 use Rattle.decoder.proofs.block.decode_place.Tie as tie
 
@@ -52,7 +53,7 @@ returns c =
       word-is = set-only (a .word .now) _ (s .pre .word-long) ∙ ap (λ (x : ℕ). x ∷ []) symbol;
       symbols-are = set-only (a .symbols .now) _ (s .pre .symbols-long) ∙ ap (λ (x : ℕ). x ∷ []) symbol;
       report-is = ap (λ (xs : List ℕ). vectorAt xs 0) (c .before .before .store .ensures)
-          ∙ stored-is (a .report .now) 0 (loads .load-vector .result) fits (search needs) ∙ v;
+          ∙ stored-is (a .report .now) 0 fits (loads .load-vector .result) (search needs) ∙ v;
     }
 
 pub decode-place-spec : {M : Type 1} → statement M

@@ -1,11 +1,15 @@
 -- `decode` meets its contract: a refusal, or the whole word decoded as one block (DecodeLaws).
 use mathlib.Core.Path.{_≡_, sym, ap, _∙_}
-use Prim.Native.Nat.{ℕ, _*_, _^_, _≤_}
+use Prim.Native.Nat.{ℕ, _≤_}
+use native.Mathlib.Nat.{le-trans, le-of-eq}
 use native.Mathlib.Omega.{arith}
 use lib.ListN.{length, take, replicate}
 use lib.Pow.{pow-mono}
 use lib.Seq.{length-take-le}
 use borrow.Author.Needs.{needs}
+use Rattle.vector.specs.Frame.{largest}
+use Rattle.vector.proofs.FrameLaws.{largest-is, largest-most}
+use Rattle.scms.specs.Decoder.{capOf}
 use Rattle.decoder.specs.Refusals.{Decodable}
 use Rattle.decoder.proofs.RefusalLaws.{taken}
 use Rattle.decoder.proofs.DecodeLaws.{whole-given, symbols-decoded, count-decoded, report-decoded, promise-refused, promise-accepted}
@@ -23,6 +27,11 @@ fits c = taken _ _ _ _ _ _ _ _ _ (sym (c .before .decode-refusal .ensures) ∙ c
 -- so the word has at most 256 places
 few : (c : tie.Else1) → length (entry c .args .map .now) ≤ 256
 few c = let t = fits c in let size = pow-mono {i = entry c .args .n} {j = 8} (t .code .layers .most) in let e = t .code .map-long in omega arith
+
+-- the cap is 2^Qm − 1
+cap-is : (c : tie.Else1) → largest (entry c .args .qm) ≡ capOf (entry c .args .qm)
+unfolding capOf
+cap-is c = largest-is (entry c .args .qm) (fits c .internal-precision .most)
 
 -- the part of the local array that is lent for the word is as long as the map
 lent : (c : tie.Else1) → length (take (length (entry c .args .map .now)) (replicate {A = ℕ} 256 0)) ≡ length (entry c .args .map .now)
@@ -44,7 +53,7 @@ returns : tie.Need-returns
 returns c = promise-refused (c .before .decode-refusal .ensures) (c .if1 .taken)
 
 largest-requires : tie.Need-largest-requires
-largest-requires c κs = fits c .internal-precision .most
+largest-requires c κs = search needs
 
 array-borrow-prefix-word : tie.Need-array-borrow-prefix-word
 array-borrow-prefix-word c = few (c .before .before)
@@ -56,7 +65,7 @@ decode-block-requires : tie.Need-decode-block-requires
 decode-block-requires c κs =
     let e = c .before .before .before .before .before in
     let cap = c .before .before .before .before .largest .ensures in
-    whole-given (fits e) (lent e ∙ fits e .code .map-long) (cap .0) (cap .1)
+    whole-given (fits e) (lent e ∙ fits e .code .map-long) (cap ∙ cap-is e) (le-trans (le-of-eq cap) (largest-most (entry e .args .qm)))
 
 clear-requires : tie.Need-clear-requires
 clear-requires c κs = search needs
@@ -74,7 +83,7 @@ returns-2 : tie.Need-returns-2
 returns-2 c =
     let e = c .before .before .before .before .before .before .before .before .before .before .before .before .before .before .before .before .before in
     let t = fits e in
-    let cap = c .before .before .before .before .before .before .before .before .before .before .before .before .before .before .before .before .largest .ensures .0 in
+    let cap = c .before .before .before .before .before .before .before .before .before .before .before .before .before .before .before .before .largest .ensures ∙ cap-is e in
     let d = c .before .before .before .before .before .before .before .before .before .before .before .decode-block in
     let long = d .kept .1 .1 .1 .1 .1 .1 .1 .1 .1 .1 .0 ∙ t .report-long in
     promise-accepted (sym (e .before .decode-refusal .ensures) ∙ e .if1 .left) (count-decoded t cap long (d .ensures .decoded)) (symbols-decoded t cap long (d .ensures .decoded))

@@ -1,7 +1,7 @@
 -- `content_refusal` meets its contract: it goes down the table of what the slices hold and stops at the first row that fits.
 use mathlib.Core.Path.{_≡_, sym, ap, _∙_}
 use mathlib.Core.List.{List}
-use Prim.Native.Nat.{ℕ, _/_}
+use Prim.Native.Nat.{ℕ, _-_, _/_, _^_, _≤_}
 use native.Mathlib.Omega.{arith}
 use borrow.Author.Needs.{needs}
 use borrow.Author.Tests.{eq-eqb, ne-eqb}
@@ -10,7 +10,7 @@ use Rattle.refusal.specs.Table.{Row, refusalOf}
 use Rattle.refusal.specs.Tests.{anyOutside}
 use Rattle.refusal.proofs.Laws.{Finds, none, here, later, finds-refusal}
 use Rattle.refusal.proofs.Within.{inside-within}
-use Rattle.scms.specs.Decoder.{capOf}
+use Rattle.vector.proofs.FrameLaws.{largest-is}
 use Rattle.decoder.specs.Refusals.{contentTable}
 use Rattle.decoder.proofs.refusals.content_refusal.Statement.{statement}
 use Rattle.decoder.proofs.refusals.content_refusal.Tie as tie
@@ -61,14 +61,20 @@ past4 c f = past3 (c .before .before) (later (ne-eqb _ 0 (λ q. c .if4 .left (c 
 past5 : (c : tie.Else5) {k : ℕ} → Finds (drop 5 (table (s5 c))) k → Finds (table (s5 c)) k
 past5 c f = past4 (c .before .before) (later (sym (c .before .any-outside2 .ensures) ∙ c .if5 .left) f)
 
+-- Qc is at most 5 where the other rows are tried
+small : (c : tie.Else5) → s5 c .args .qc ≤ 13
+small c =
+    let first : tie.Else1 = c .before .before .before .before .before .before .before .before in
+    let few = inside-within 1 5 (s5 c .args .qc) (sym (first .before .is-outside .ensures) ∙ first .if1 .left) .most in
+    omega arith
+
 -- the test of row 8 is made with the largest penalty of Qc
-above : (c : tie.After-any-above) → let s = s5 (c .before .before) .args in anyOutside 0 (capOf (s .qc)) (s .frame .now) ≡ c .any-above .result
+above : (c : tie.After-any-above) → let s = s5 (c .before .before) .args in anyOutside 0 (2 ^ (s .qc) - 1) (s .frame .now) ≡ c .any-above .result
 above c =
     let s = s5 (c .before .before) .args in
-    sym (c .any-above .ensures ∙ ap (λ (x : ℕ). anyOutside 0 x (s .frame .now)) (c .before .largest .ensures .0))
+    sym (c .any-above .ensures ∙ ap (λ (x : ℕ). anyOutside 0 x (s .frame .now)) (c .before .largest .ensures ∙ largest-is (s .qc) (small (c .before .before))))
 
 past6 : (c : tie.Else6) {k : ℕ} → Finds (drop 6 (table (s6 c))) k → Finds (table (s6 c)) k
-unfolding capOf
 past6 c f = past5 (c .before .before .before .before) (later (above (c .before .before) ∙ c .if6 .left) f)
 
 past7 : (c : tie.Else7) {k : ℕ} → Finds (drop 7 (table (s7 c))) k → Finds (table (s7 c)) k
@@ -104,12 +110,8 @@ any-outside-requires-2 c κs = search needs
 returns-5 : tie.Need-returns-5
 returns-5 c = ends (s4 (c .before .before)) (past4 (c .before .before) (here (sym (c .before .any-outside2 .ensures) ∙ c .if5 .taken)))
 
--- Qc is at most 5
 largest-requires : tie.Need-largest-requires
-largest-requires c κs =
-    let first : tie.Else1 = c .before .before .before .before .before .before .before .before in
-    let few = inside-within 1 5 (s5 c .args .qc) (sym (first .before .is-outside .ensures) ∙ first .if1 .left) .most in
-    omega arith
+largest-requires c κs = search needs
 
 any-above-requires : tie.Need-any-above-requires
 any-above-requires c κs = search needs
@@ -118,7 +120,6 @@ any-without-zero-requires : tie.Need-any-without-zero-requires
 any-without-zero-requires c κs = search needs
 
 returns-6 : tie.Need-returns-6
-unfolding capOf
 returns-6 c = ends (s5 (c .before .before .before .before)) (past5 (c .before .before .before .before) (here (above (c .before .before) ∙ c .if6 .taken)))
 
 returns-7 : tie.Need-returns-7
