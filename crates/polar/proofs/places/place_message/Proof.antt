@@ -21,11 +21,9 @@ Inv-loop map symbols word₀ next₀ j₀ word next j = PlacedTo map symbols wor
 abbrev μ-loop : tie.MeasureT-loop
 μ-loop map symbols word₀ next₀ j₀ word next j = length map - j
 
--- src/places.rt:29:5
 loop-holds : tie.Need-loop-holds Inv-loop μ-loop
 loop-holds c = (omega arith, refl, let e = c .pre .enough in omega arith, refl)
 
--- src/places.rt:30:12
 shared-slice-read-if1 : tie.Need-shared-slice-read-if1 Inv-loop μ-loop
 shared-slice-read-if1 c = search needs
 
@@ -37,31 +35,24 @@ next-there c =
     let e = places-from (c .before .before .before .before .before .args .map .now) (at .j) (search needs) (kind-message _ (c .before .if1 .taken)) in
     omega arith
 
--- src/places.rt:31:21
 shared-slice-read-s : tie.Need-shared-slice-read-s Inv-loop μ-loop
 shared-slice-read-s c = next-there c
 
--- src/places.rt:32:13
 slice-write-word : tie.Need-slice-write-word Inv-loop μ-loop
 slice-write-word c = search needs
 
--- src/places.rt:33:13
 add-next : tie.Need-add-next Inv-loop μ-loop
 add-next c = let l = next-there c in search needs
 
--- src/places.rt:35:13
 slice-write-word-2 : tie.Need-slice-write-word-2 Inv-loop μ-loop
 slice-write-word-2 c = search needs
 
--- src/places.rt:37:9
 add-j : tie.Need-add-j Inv-loop μ-loop
 add-j c = search needs
 
--- src/places.rt:29:5
 loop-less : tie.Need-loop-less Inv-loop μ-loop
 loop-less c = search needs
 
--- src/places.rt:29:5
 loop-again : tie.Need-loop-again Inv-loop μ-loop
 unfolding symbolAt restAfter messageCount
 loop-again c =
@@ -78,11 +69,9 @@ loop-again c =
     (w .1) (w .2 ∙ sym (add-zero (at .next))) (ap (λ (x : ℕ). drop x (a .symbols .now)) (sym (w .2))) (at .inv))
     (c .if1 .came)
 
--- src/places.rt:23:1
 same-length : tie.Need-same-length Inv-loop μ-loop
 same-length c = search needs
 
--- src/places.rt:23:1
 returns : tie.Need-returns Inv-loop μ-loop
 unfolding wordBefore
 returns c =
