@@ -1,4 +1,5 @@
-"""Pseudo-random draws, as the test program makes them."""
+"""Pseudo-random draws, and damage to what is drawn, as the test program makes
+them."""
 
 
 class Generator:
@@ -19,3 +20,26 @@ def lent_length(needed, damages, short):
     if short + 1 in damages:
         return needed + 1
     return needed
+
+
+def code_sizes(n):
+    """How many places and kernels the inputs are made for: those of n layers,
+    or of 2 layers for an n that is to be refused."""
+    layers = n if 1 <= n <= 8 else 2
+    size = 2 ** layers
+    return size, layers * (size // 2)
+
+
+def damage_code(d, first, p, size, frozen_map, count, coefs):
+    """Damage d to a byte of the map or the coefficients, at a place that p
+    picks: `first` is the first of five such damages, other d do nothing."""
+    if d == first:
+        frozen_map[p % size] = 2
+    elif d == first + 1:
+        frozen_map[p % size] = 255
+    elif d == first + 2:
+        coefs[p % count] = 0
+    elif d == first + 3:
+        coefs[p % count] = 64
+    elif d == first + 4:
+        coefs[p % count] = 255

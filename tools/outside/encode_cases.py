@@ -6,7 +6,7 @@ buffer after the call.
 
 import scms
 
-from draws import Generator, lent_length
+from draws import Generator, code_sizes, damage_code, lent_length
 
 CASES = 400
 
@@ -23,6 +23,9 @@ COEFS_LENGTH = 2
 MESSAGE_LENGTH = 4
 CODEWORD_LENGTH = 6
 
+# The first of the damages to a byte of the map or of the coefficients.
+CODE_BYTES = 8
+
 # Content of the codeword buffer before the call.  It is no symbol, so a byte
 # that the encoder leaves alone can be told from one it writes.
 UNTOUCHED = 255
@@ -30,17 +33,8 @@ UNTOUCHED = 255
 
 def damage_bytes(d, p, size, count, frozen_map, coefs, message):
     """Damage d to the bytes, at a place that p picks; most d do nothing."""
-    if d == 8:
-        frozen_map[p % size] = 2
-    elif d == 9:
-        frozen_map[p % size] = 255
-    elif d == 10:
-        coefs[p % count] = 0
-    elif d == 11:
-        coefs[p % count] = 64
-    elif d == 12:
-        coefs[p % count] = 255
-    elif d == 13:
+    damage_code(d, CODE_BYTES, p, size, frozen_map, count, coefs)
+    if d == 13:
         message[p % 2] = 64
     elif d == 14:
         message[p % 2] = 255
@@ -54,10 +48,7 @@ def draw_case(generator):
     draw = generator.draw
 
     n = draw() % 10
-    # For an n that is to be refused the other inputs are sized as for n = 2.
-    layers = n if 1 <= n <= 8 else 2
-    size = 2 ** layers
-    count = layers * (size // 2)
+    size, count = code_sizes(n)
 
     # What is not drawn is 0.
     frozen_map = [draw() % 2 for _ in range(size)]

@@ -7,8 +7,7 @@ attempt to be fast.  Symbols, map bytes and coefficients are plain integers in
 lists.
 
 Sections present: field, transform, frozen map, refusals, encoder, worked rows.
-Spreading and weighing are in chips.py.  Decoding is meant to come between the
-encoder and the worked rows; its worked rows then join self_test().
+Spreading and weighing are in chips.py, decoding in decoding.py.
 """
 
 

@@ -1,7 +1,7 @@
 // The cases of spreading and of weighing, and what they share: a base, a count of symbols, numbers as given after damage, and how a line
 // is printed.
-use crate::draws::print_number;
 use crate::draws::step;
+use crate::print::print_number;
 use crate::spreading::spread_case;
 use crate::weighing::demap_case;
 use libc::STDOUT_FILENO;

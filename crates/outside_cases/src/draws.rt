@@ -1,5 +1,4 @@
-// Draws: a pseudo-random state, what is drawn in it, and slices that are drawn, lent one too short or too long, or printed.
-use libc::STDOUT_FILENO;
+// Draws: a pseudo-random state, what is drawn in it, and slices that are drawn, or lent one too short or too long.
 ghost use Prim.Native.Nat.{_<_};
 
 // The next state of the 32-bit linear congruential generator.
@@ -29,6 +28,22 @@ pub(crate) fn put(s: &mut [u8], at: usize, x: usize) {
     }
 }
 
+// Stores a number, where there is room for it.
+pub(crate) fn put_number(s: &mut [u16], at: usize, x: usize) {
+    if at < s.len() {
+        s[at] = (x % 65536) as u16;
+    }
+}
+
+// Sets the first n bytes of s to x.
+pub(crate) fn fill(s: &mut [u8], n: usize, x: usize) {
+    let mut i: usize = 0;
+    while i < n {
+        put(s, i, x);
+        i += 1;
+    }
+}
+
 // Draws the first n bytes of s, each from low on and one of range, and returns the state after that.
 pub(crate) fn draw_bytes(state: u64, s: &mut [u8], n: usize, low: usize, range: usize) -> u64 {
     let mut last = state;
@@ -46,6 +61,11 @@ pub(crate) fn front(s: &[u8], n: usize) -> &[u8] {
     if n <= s.len() { &s[..n] } else { s }
 }
 
+// The first n numbers of s, or all where it has fewer.
+pub(crate) fn front_numbers(s: &[u16], n: usize) -> &[u16] {
+    if n <= s.len() { &s[..n] } else { s }
+}
+
 // The length of a slice as lent, where needed is the right one: one less for the damage short, one more for the damage after it.
 pub(crate) fn lent_length(needed: usize, d: usize, e: usize, short: usize) -> usize {
     if d == short || e == short {
@@ -54,15 +74,9 @@ pub(crate) fn lent_length(needed: usize, d: usize, e: usize, short: usize) -> us
         }
         return needed - 1;
     }
-    let long = short % 8 + 1;
+    let long = short % 32 + 1;
     if d == long || e == long {
         return needed % 65536 + 1;
     }
     needed
-}
-
-// Prints a blank and a number.
-pub(crate) fn print_number(x: u64) {
-    io::write_all(STDOUT_FILENO, b" ");
-    io::print_decimal(STDOUT_FILENO, x);
 }

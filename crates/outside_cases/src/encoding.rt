@@ -1,49 +1,16 @@
 // The encoder on pseudo-random inputs, valid and damaged: for each a line with the answer of `encode` and the buffer lent for the codeword.
+use crate::code::damage_code;
+use crate::code::kernels;
+use crate::code::places;
 use crate::draws::draw_bytes;
 use crate::draws::drawn;
+use crate::draws::fill;
 use crate::draws::front;
 use crate::draws::lent_length;
-use crate::draws::print_number;
 use crate::draws::put;
 use crate::draws::step;
+use crate::print::print_bytes;
 use libc::STDOUT_FILENO;
-
-// Sets the first n bytes of s to x.
-fn fill(s: &mut [u8], n: usize, x: usize) {
-    let mut i: usize = 0;
-    while i < n {
-        put(s, i, x);
-        i += 1;
-    }
-}
-
-// The number of places that the inputs are made for: those of n layers, or of 2 for an n that is to be refused.
-fn places(n: usize) -> usize {
-    match n {
-        1 => 2,
-        3 => 8,
-        4 => 16,
-        5 => 32,
-        6 => 64,
-        7 => 128,
-        8 => 256,
-        _ => 4,
-    }
-}
-
-// And the number of kernels.
-fn kernels(n: usize) -> usize {
-    match n {
-        1 => 1,
-        3 => 12,
-        4 => 32,
-        5 => 80,
-        6 => 192,
-        7 => 448,
-        8 => 1024,
-        _ => 4,
-    }
-}
 
 // Damage d to the bytes of the map, the coefficients or the message, at a place that the state picks; most d do nothing.
 fn damage(
@@ -55,26 +22,7 @@ fn damage(
     coefs: &mut [u8],
     message: &mut [u8],
 ) {
-    if d == 8 {
-        put(map, drawn(state, size), 2);
-        return;
-    }
-    if d == 9 {
-        put(map, drawn(state, size), 255);
-        return;
-    }
-    if d == 10 {
-        put(coefs, drawn(state, count), 0);
-        return;
-    }
-    if d == 11 {
-        put(coefs, drawn(state, count), 64);
-        return;
-    }
-    if d == 12 {
-        put(coefs, drawn(state, count), 255);
-        return;
-    }
+    damage_code(d, 8, state, size, map, count, coefs);
     if d == 13 {
         put(message, drawn(state, 2), 64);
         return;
@@ -85,20 +33,6 @@ fn damage(
     }
     if d == 15 {
         fill(map, size, 1);
-    }
-}
-
-// Prints a blank and a byte.
-fn print_byte(x: u8) {
-    print_number(x as u64);
-}
-
-// Prints the bytes of a buffer, a blank before each.
-fn print_bytes(bytes: &[u8]) {
-    let mut i: usize = 0;
-    while i < bytes.len() {
-        print_byte(bytes[i]);
-        i += 1;
     }
 }
 

@@ -10,9 +10,9 @@ use crate::draws::draw_bytes;
 use crate::draws::drawn;
 use crate::draws::front;
 use crate::draws::lent_length;
-use crate::draws::print_number;
 use crate::draws::put;
 use crate::draws::step;
+use crate::print::print_number;
 use libc::STDOUT_FILENO;
 
 // Spreads into a buffer, and prints the line.

@@ -10,24 +10,16 @@ use crate::chips::symbol_count;
 use crate::draws::drawn;
 use crate::draws::drawn_number;
 use crate::draws::lent_length;
-use crate::draws::print_number;
 use crate::draws::step;
+use crate::print::print_number;
+use crate::print::print_numbers;
+use crate::print::wide;
 use libc::STDOUT_FILENO;
-
-// A penalty as a number to print.
-fn wide(x: u16) -> u64 {
-    x as u64
-}
 
 // Prints the part of one place.
 fn part_line(llrs: &[u16], place: usize) {
     io::write_all(STDOUT_FILENO, b"p");
-    let part = ccsk::place_llrs(llrs, place);
-    let mut i: usize = 0;
-    while i < part.len() {
-        print_number(wide(part[i]));
-        i += 1;
-    }
+    print_numbers(ccsk::place_llrs(llrs, place));
     io::write_all(STDOUT_FILENO, b"\n");
 }
 

@@ -1,12 +1,8 @@
 // Document 01's worked rows on base, chips and gain: the answer of `spread` and the number that symbol 1 is sent as, for the base 1
 // and for the base 2^32 + 1, which is refused; and the answer of `demap` and the penalties of the one symbol weighed, for three gains.
+use crate::print::print_llrs;
 use crate::print::print_number;
 use libc::STDOUT_FILENO;
-
-// A penalty as a number to print.
-fn wide(x: u16) -> u64 {
-    x as u64
-}
 
 // Spreads symbol 1, and prints the answer and the buffer.
 fn print_sent(base: u64) {
@@ -14,16 +10,6 @@ fn print_sent(base: u64) {
     let answer = ccsk::spread(base, &[1], &mut numbers);
     io::print_decimal(STDOUT_FILENO, answer as u64);
     print_number(numbers[0]);
-    io::write_all(STDOUT_FILENO, b"\n");
-}
-
-// Prints the penalties of one place.
-fn print_llrs(llrs: &[u16]) {
-    let mut v: usize = 0;
-    while v < llrs.len() {
-        print_number(wide(llrs[v]));
-        v += 1;
-    }
     io::write_all(STDOUT_FILENO, b"\n");
 }
 

@@ -1,9 +1,11 @@
 // Prints rows that document 01 works by hand, as the calls give them.
 mod chips;
+mod decoding;
 mod encoding;
 mod print;
 
 fn main() {
     encoding::print_rows();
     chips::print_rows();
+    decoding::print_rows();
 }

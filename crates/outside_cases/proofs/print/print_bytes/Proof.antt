@@ -2,8 +2,8 @@
 use Prim.Native.Nat.{_-_, _≤_}
 use lib.ListN.{length}
 use borrow.Author.Needs.{needs}
-use Rattle.outside_cases.proofs.encoding.print_bytes.Statement.{statement}
-use Rattle.outside_cases.proofs.encoding.print_bytes.Tie as tie
+use Rattle.outside_cases.proofs.print.print_bytes.Statement.{statement}
+use Rattle.outside_cases.proofs.print.print_bytes.Tie as tie
 
 abbrev Inv-loop : tie.InvT-loop
 Inv-loop bytes i₀ i = i ≤ length bytes

@@ -1,25 +1,28 @@
--- `fill` keeps the length of its slice, and ends.
+-- `raise_zeros` keeps the length of its slice, and ends.
 use mathlib.Core.Path.{_≡_}
 use Prim.Native.Nat.{_-_, _≤_}
 use lib.ListN.{length}
 use borrow.Author.Needs.{needs}
-use Rattle.outside_cases.proofs.encoding.fill.Statement.{statement}
-use Rattle.outside_cases.proofs.encoding.fill.Tie as tie
+use Rattle.outside_cases.proofs.damages.raise_zeros.Statement.{statement}
+use Rattle.outside_cases.proofs.damages.raise_zeros.Tie as tie
 
 abbrev Inv-loop : tie.InvT-loop
-Inv-loop s₀ n x i₀ s i = (i ≤ n) × (length s ≡ length s₀)
+Inv-loop first frame₀ b₀ frame b = (b ≤ 64) × (length frame ≡ length frame₀)
 
 abbrev μ-loop : tie.MeasureT-loop
-μ-loop s₀ n x i₀ s i = n - i
+μ-loop first frame₀ b₀ frame b = 64 - b
 
 loop-holds : tie.Need-loop-holds Inv-loop μ-loop
 loop-holds c = search needs
 
-put-requires : tie.Need-put-requires Inv-loop μ-loop
-put-requires c κs = search needs
+add-raise : tie.Need-add-raise Inv-loop μ-loop
+add-raise c = search needs
 
-add-i : tie.Need-add-i Inv-loop μ-loop
-add-i c = search needs
+raise-requires : tie.Need-raise-requires Inv-loop μ-loop
+raise-requires c κs = search needs
+
+add-b : tie.Need-add-b Inv-loop μ-loop
+add-b c = search needs
 
 loop-less : tie.Need-loop-less Inv-loop μ-loop
 loop-less c = search needs
@@ -33,15 +36,16 @@ same-length c = search needs
 returns : tie.Need-returns Inv-loop μ-loop
 returns c = search needs
 
-pub fill-spec : {M : Type 1} → statement M
-fill-spec =
+pub raise-zeros-spec : {M : Type 1} → statement M
+raise-zeros-spec =
     tie.close
     (tie.spec
     Inv-loop
     μ-loop
     loop-holds
-    put-requires
-    add-i
+    add-raise
+    raise-requires
+    add-b
     loop-less
     loop-again
     same-length

@@ -1,15 +1,15 @@
--- `print_llrs` ends.
+-- `print_numbers` ends.
 use Prim.Native.Nat.{_-_, _≤_}
 use lib.ListN.{length}
 use borrow.Author.Needs.{needs}
-use Rattle.worked_rows.proofs.chips.print_llrs.Statement.{statement}
-use Rattle.worked_rows.proofs.chips.print_llrs.Tie as tie
+use Rattle.outside_cases.proofs.print.print_numbers.Statement.{statement}
+use Rattle.outside_cases.proofs.print.print_numbers.Tie as tie
 
 abbrev Inv-loop : tie.InvT-loop
-Inv-loop llrs v₀ t3 v = v ≤ length llrs
+Inv-loop numbers i₀ i = i ≤ length numbers
 
 abbrev μ-loop : tie.MeasureT-loop
-μ-loop llrs v₀ t3 v = length llrs - v
+μ-loop numbers i₀ i = length numbers - i
 
 loop-holds : tie.Need-loop-holds Inv-loop μ-loop
 loop-holds c = search needs
@@ -26,8 +26,8 @@ wide-requires c κs = search needs
 print-number-requires : tie.Need-print-number-requires Inv-loop μ-loop
 print-number-requires c κs = search needs
 
-add-v : tie.Need-add-v Inv-loop μ-loop
-add-v c = search needs
+add-i : tie.Need-add-i Inv-loop μ-loop
+add-i c = search needs
 
 loop-less : tie.Need-loop-less Inv-loop μ-loop
 loop-less c = search needs
@@ -35,17 +35,11 @@ loop-less c = search needs
 loop-again : tie.Need-loop-again Inv-loop μ-loop
 loop-again c = search needs
 
-slice-aggregate-write-all : tie.Need-slice-aggregate-write-all Inv-loop μ-loop
-slice-aggregate-write-all c = search needs
-
-write-all-requires : tie.Need-write-all-requires Inv-loop μ-loop
-write-all-requires c κs = search needs
-
 returns : tie.Need-returns Inv-loop μ-loop
 returns c = search needs
 
-pub print-llrs-spec : {M : Type 1} → statement M
-print-llrs-spec =
+pub print-numbers-spec : {M : Type 1} → statement M
+print-numbers-spec =
     tie.close
     (tie.spec
     Inv-loop
@@ -55,9 +49,7 @@ print-llrs-spec =
     shared-slice-read-wide
     wide-requires
     print-number-requires
-    add-v
+    add-i
     loop-less
     loop-again
-    slice-aggregate-write-all
-    write-all-requires
     returns)

@@ -1,0 +1,18 @@
+-- `front_numbers` hands out as many numbers as it says.
+use mathlib.Core.Path.{sym}
+use lib.Seq.{length-take-le}
+use borrow.Author.Needs.{needs}
+use Rattle.outside_cases.proofs.draws.front_numbers.Statement.{statement}
+use Rattle.outside_cases.proofs.draws.front_numbers.Tie as tie
+
+slice-aggregate-result : tie.Need-slice-aggregate-result
+slice-aggregate-result c = sym (length-take-le _ _ (c .before .if1 .taken))
+
+returns : tie.Need-returns
+returns c = search needs
+
+returns-2 : tie.Need-returns-2
+returns-2 c = search needs
+
+pub front-numbers-spec : {M : Type 1} → statement M
+front-numbers-spec = tie.close (tie.spec slice-aggregate-result returns returns-2)
