@@ -1,5 +1,5 @@
 """The expected results of pseudo-random calls of the decoder: 60 frames that are
-taken, 64 calls with one damage or none, and 240 with two.
+taken, 64 calls with one damage or none, and 240 with up to two.
 
 A line 'c': where the call is taken 0, the count of clipped entries, and how
 many numbers of the work buffer are not 0 afterwards: none; on a refusal its
@@ -64,7 +64,7 @@ def draw_penalty(generator, mode, most):
     """A penalty: any; mostly 0 or 1; or mostly the largest.
 
     One draw is taken modulo two numbers, 15 or 31 and a power of 2: they have
-    no common divisor, so what one gives leaves the other open.
+    no common divisor but 1, so what one gives leaves the other open.
     """
     drawn = generator.draw()
     if mode == 1 and drawn % 15 < 13:
@@ -214,7 +214,7 @@ def lines():
         n = {0: 0, 30: 9, 31: 257}.get(d, n)
         yield from run_case(generator, n, [d, 0], False)
     for _ in range(DAMAGED):
-        # Two damages, so that a call can fit several refusals at once and the
+        # Up to two damages, so that a call can fit several refusals at once and the
         # order between them is tried as well.
         n = some_layers(generator.draw() % 24)
         damages = [draw_damage(generator), draw_damage(generator)]

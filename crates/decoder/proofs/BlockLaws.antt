@@ -80,7 +80,6 @@ module _ {L start cap o : ℕ} {cs map frame work word symbols report : List ℕ
     pub few : half ≤ 128
     pub start-small : start ≤ 1024
     pub stride-small : stride ≤ 128
-    pub next-small : next + half ≤ 512
     pub in-map : half ≤ length map
     pub in-word : half ≤ length word
     pub in-symbols : half ≤ length symbols
@@ -93,12 +92,10 @@ module _ {L start cap o : ℕ} {cs map frame work word symbols report : List ℕ
       let a = g .map-long in
       let b = g .symbols-long in
       let c = g .report-long in
-      let d = g .few-vectors in
       record {
         few = z .few;
         start-small = z .start-small;
         stride-small = g .block .stride-small;
-        next-small = omega arith;
         in-map = omega arith;
         in-word = z .within;
         in-symbols = omega arith;
@@ -137,7 +134,6 @@ module _ {L start cap o : ℕ} {cs map frame work word symbols report : List ℕ
       let t = two in
       let p = one in
       let x = g .in-work in
-      let y = g .few-vectors in
       let z = g .long in
       record {
         block = subst (λ (h : ℕ). Block (L - 1) (h / 2) s stride cs w) (sym lb) b;
@@ -148,7 +144,6 @@ module _ {L start cap o : ℕ} {cs map frame work word symbols report : List ℕ
         report-long = lr ∙ ap (λ (h : ℕ). 64 * h) (sym p);
         whole = g .whole;
         in-work = omega arith;
-        few-vectors = omega arith;
         long = omega arith;
         vectors = λ i l. vectors i (omega arith);
       }
@@ -193,8 +188,8 @@ module _ {L start cap o : ℕ} {cs map frame work word symbols report : List ℕ
     in-first t l = List·getD-append wA (drop half word) 0 t (let e = wA-long in omega arith)
 
     -- what the variable nodes are given
-    pub at-vary : KernelsGiven o half start cs frame work2
-    at-vary = at-layer (f .work-long ∙ f .checked-long) kept2
+    pub at-variable : KernelsGiven o half start cs frame work2
+    at-variable = at-layer (f .work-long ∙ f .checked-long) kept2
 
     pub at-symbols : FirstSymbols half w
     at-symbols = record {
@@ -241,8 +236,8 @@ module _ {L start cap o : ℕ} {cs map frame work word symbols report : List ℕ
             omega arith
 
         -- the variable nodes, from the block's vectors as they came
-        varied : AreVariableNodes half o half start cap cs w (frame ++ work) (frame ++ work3)
-        varied t l =
+        variables-are : AreVariableNodes half o half start cap cs w (frame ++ work) (frame ++ work3)
+        variables-are t l =
             v .nodes t l
             ∙ ap₂ (λ (x y : List ℕ). variableNode cap (getD cs (start + t) 1) (getD w t 0) x y) (kept2 (o + t) (omega arith)) (kept2 (o + (half + t)) (omega arith))
 
@@ -267,7 +262,7 @@ module _ {L start cap o : ℕ} {cs map frame work word symbols report : List ℕ
                   (sym (lent-both (64 * half) report rA (f .report-long) (z .in-report) rB))
                   (split (Step start stride cap o cs map (frame ++ work)) (step start stride cap o cs map (frame ++ work)) L half ne (g .block .halved)
                   (frame ++ work1) (frame ++ work3) w wA wB after sA sB rA rB left clipped right
-                  (f .checked .nodes) (f .decoded .decoded) in-first varied counted (v .few)
+                  (f .checked .nodes) (f .decoded .decoded) in-first variables-are counted (v .few)
                   (subst (λ (x : List ℕ). BlockDecoded (L - 1) (start + stride + half / 2) stride cap cs x (vectorsFrom (L - 1) next (frame ++ work3)) wB sB rB right)
                   (tail-drop half map) (s .decoded .decoded))
                   (front-long (64 * half) report rA (f .report-long) (z .in-report))

@@ -5,7 +5,6 @@ use Prim.Native.Nat.{ℕ, _+_, _*_, _/_, _^_, _≤_, _<_}
 use native.Mathlib.Nat.{zero-add}
 use native.Mathlib.Omega.{arith}
 use lib.ListN.{length, replicate}
-use lib.Pow.{pow-mono}
 use Rattle.refusal.proofs.Laws.{when-taken, when-refused}
 use Rattle.vector.specs.Vector.{tabulate, vectorAt}
 use Rattle.vector.proofs.Laws.{getD-tabulate}
@@ -48,7 +47,6 @@ module _ {n : ℕ} {map cs : List ℕ} {qc qm : ℕ} {frame work symbols report 
     pub whole-given : {word : List ℕ} {cap : ℕ} → length word ≡ 2 ^ n → cap ≡ capOf qm → cap ≤ 8191
         → BlockGiven n 0 cap 0 cs map frame work word symbols report
     whole-given {word} {cap} lw ec lc =
-        let size = pow-mono {i = n} {j = 8} (t .code .layers .most) in
         let a = t .frame-long in
         let b = t .work-long in
         let half : length map / 2 ≡ 2 ^ n / 2 = ap (λ (x : ℕ). x / 2) (t .code .map-long) in
@@ -62,7 +60,6 @@ module _ {n : ℕ} {map cs : List ℕ} {qc qm : ℕ} {frame work symbols report 
           report-long = t .report-long;
           whole = omega arith;
           in-work = omega arith;
-          few-vectors = omega arith;
           long = omega arith;
           vectors = λ i l. subst BlockVector (sym (vector-is i l)) (record {
             most = λ c lb. let m = each-cap n map cs qc qm frame work symbols report t i l c lb in omega arith;

@@ -15,6 +15,7 @@ use Rattle.polar.proofs.TreeLaws.{number-lt, map3-at, map4-at, ext-at, treeOf-a
 use Rattle.scms.specs.Nodes.{checkNode, variableNode, clippedEntries}
 use Rattle.scms.specs.Halves.{Vectors, checkNodes, variableNodes, clippedNodes, decodeTree}
 use Rattle.scms.proofs.TreeSums.{tree-sum}
+use Rattle.scms.proofs.ByHalves.{same-three}
 use Rattle.decoder.specs.Parts.{AreCheckNodes, AreVariableNodes, clippedTo, vectorsFrom, blockAnswer, BlockDecoded}
 use Rattle.polar.proofs.BlockLaws.{coef-at, joined-leaves}
 use Rattle.vector.proofs.SliceLaws.{vector-first, vector-second}
@@ -29,10 +30,7 @@ vectors-at m o source p =
 pub vectors-by : (m o : ℕ) (source : List ℕ) (f : Vectors m) → ((p : Place m) → vectorAt source (o + number p) ≡ at f p) → vectorsFrom m o source ≡ f
 vectors-by m o source f h = ext-at m (vectorsFrom m o source) f (λ p. vectors-at m o source p ∙ h p)
 
--- functions of three and of four things that are equal to others
-same-three : {A B C D : Type 0} {a a′ : A} {b b′ : B} {c c′ : C} (f : A → B → C → D) → a ≡ a′ → b ≡ b′ → c ≡ c′ → f a b c ≡ f a′ b′ c′
-same-three f p q r = λ i. f (p i) (q i) (r i)
-
+-- a function of four things that are equal to four others
 same-four : {A B C D E : Type 0} {a a′ : A} {b b′ : B} {c c′ : C} {d d′ : D} (f : A → B → C → D → E) → a ≡ a′ → b ≡ b′ → c ≡ c′ → d ≡ d′
     → f a b c d ≡ f a′ b′ c′ d′
 same-four f p q r s = λ i. f (p i) (q i) (r i) (s i)
@@ -113,7 +111,7 @@ module _ (start stride cap o : ℕ) (cs map source : List ℕ) where
 
   pub step : (p : ℕ) → Step (suc p) p (2 ^ p)
   unfolding decodeTree coefsAt treeOf leaves
-  step p ys zs w wA wB after sA sB rA rB left clipped right checked dA hw varied ec fc dB lr la j =
+  step p ys zs w wA wB after sA sB rA rB left clipped right checked dA hw variables ec fc dB lr la j =
       let hs = H p start o cs source in
       let f = F p start o cs source in
       let A = blockAnswer p (start + stride) stride cap cs (take (2 ^ p) map) (checkNodes p hs (f .0) (f .1)) in
@@ -123,7 +121,7 @@ module _ (start stride cap o : ℕ) (cs map source : List ℕ) where
       = λ q. hw (number q) (number-lt q) ∙ ap (λ (x : List ℕ). getD x (number q) 0) (eA .word-is) ∙ leaves-at 0 q W in
       let B = blockAnswer p (start + stride + 2 ^ p / 2) stride cap cs (drop (2 ^ p) map) (variableNodes p cap hs (f .0) (f .1) W) in
       let eB = subst (λ (g : Vectors p). BlockDecoded p (start + stride + 2 ^ p / 2) stride cap cs (drop (2 ^ p) map) g wB sB rB right)
-      (variables-tree p start o cs source cap w W hW zs varied) dB in
+      (variables-tree p start o cs source cap w W hW zs variables) dB in
       record {
         word-is = joined-leaves p start cs wA wB after W (B .word) (eA .word-is) (eB .word-is) la j;
         symbols-are = ap₂ (λ (x y : List ℕ). x ++ y) (eA .symbols-are) (eB .symbols-are);

@@ -1,9 +1,9 @@
 -- The laws that the proofs of this crate's functions share.
-use mathlib.Core.Path.{_≡_, sym, ap, _∙_, subst}
-use mathlib.Core.List.{List}
+use mathlib.Core.Path.{_≡_, refl, sym, ap, _∙_, subst}
+use mathlib.Core.List.{List, [], _∷_}
 use Prim.Native.Nat.{ℕ, zero, suc, _+_, _-_, _≤_, _<_}
 use native.Mathlib.Omega.{arith}
-use lib.ListN.{getD}
+use lib.ListN.{length, getD, set}
 use Rattle.vector.proofs.Laws.{length-tabulate, getD-tabulate}
 use Rattle.gf64.specs.Field.{_⊕_, _⊙_}
 use Rattle.gf64.proofs.SumLaws.{sum-lt}
@@ -37,3 +37,9 @@ smallest-more (suc k) b f l e =
       (λ s. sym (smallest-takes k f (subst (λ (x : ℕ). f (suc k) < f x) p s)) ∙ back),
       (λ s. p ∙ sym (smallest-keeps k f (subst (λ (x : ℕ). f x ≤ f (suc k)) p s)) ∙ back),
     )
+
+-- the only entry of a list written
+pub set-only : (xs : List ℕ) (x : ℕ) → length xs ≡ 1 → set xs 0 x ≡ x ∷ []
+set-only [] x e = absurd (omega arith)
+set-only (y ∷ []) x e = refl
+set-only (y ∷ (z ∷ zs)) x e = absurd (omega arith)

@@ -1,45 +1,35 @@
 -- How the loops over the nodes of one layer go on: one more vector is stored after the block's own.
 use mathlib.Core.Path.{_≡_, refl, sym, ap, _∙_, subst}
-use mathlib.Core.List.{List, [], _∷_, _++_}
+use mathlib.Core.List.{List, _++_}
 use Prim.Native.Nat.{ℕ, _+_, _-_, _*_, _/_, _≤_, _<_}
 use native.Mathlib.Decide.{decLt}
 use native.Mathlib.Omega.{arith}
-use lib.ListN.{length, getD, set, length-append}
+use lib.ListN.{length, getD, length-append}
 use Rattle.vector.specs.Vector.{vectorAt, withVector, stored}
 use Rattle.vector.proofs.SliceLaws.{vector-long, with-long, with-there, with-other, with-append, entries-of, stored-there}
 use Rattle.polar.proofs.Numbers.{getD-any}
-use Rattle.scms.specs.Nodes.{checkNode, variableNode}
 use Rattle.decoder.specs.Parts.{Small, Kept, KernelsGiven}
 
--- the nodes of kernel t, from a list with the block's vectors: the check node
-abbrev pub checkAt : (at half start : ℕ) (cs source : List ℕ) (t : ℕ) → List ℕ
-checkAt at half start cs source t = checkNode (getD cs (start + t) 1) (vectorAt source (at + t)) (vectorAt source (at + (half + t)))
-
--- and the variable node
-abbrev pub variableAt : (at half start cap : ℕ) (cs word source : List ℕ) (t : ℕ) → List ℕ
-variableAt at half start cap cs word source t =
-    variableNode cap (getD cs (start + t) 1) (getD word t 0) (vectorAt source (at + t)) (vectorAt source (at + (half + t)))
-
 -- the vectors g 0, g 1, .., g (t − 1) stand after the block's, and what was before them is as it was
-pub record LaidTo (at half : ℕ) (frame work : List ℕ) (g : ℕ → List ℕ) (after : List ℕ) (t : ℕ) : Type 0 where
+pub record StoredNodes (at half : ℕ) (frame work : List ℕ) (g : ℕ → List ℕ) (after : List ℕ) (t : ℕ) : Type 0 where
   pub few : t ≤ half
   pub long : length after ≡ length work
   pub kept : Kept (at + (half + half)) (frame ++ work) (frame ++ after)
   pub nodes : (s : ℕ) → s < t → vectorAt (frame ++ after) (at + (half + half) + s) ≡ g s
 
 -- where the loops begin
-pub layer-none : {at half : ℕ} {frame work : List ℕ} {g : ℕ → List ℕ} → LaidTo at half frame work g work 0
+pub layer-none : {at half : ℕ} {frame work : List ℕ} {g : ℕ → List ℕ} → StoredNodes at half frame work g work 0
 layer-none = record { few = omega arith; long = refl; kept = λ i l. refl; nodes = λ s l. absurd (omega arith) }
 
 module _ {at half start : ℕ} {cs frame work : List ℕ} (given : KernelsGiven at half start cs frame work) where
   -- a vector of the block is one that a node can be given
-  pub source-small : (i : ℕ) → i < half + half → Small (vectorAt (frame ++ work) (at + i))
+  source-small : (i : ℕ) → i < half + half → Small (vectorAt (frame ++ work) (at + i))
   source-small i l = record {
     long = vector-long (frame ++ work) (at + i) (let k = given .long in simp length-append (omega arith));
     most = given .most i l;
   }
 
-  module _ {g : ℕ → List ℕ} {after : List ℕ} {t : ℕ} (s : LaidTo at half frame work g after t) where
+  module _ {g : ℕ → List ℕ} {after : List ℕ} {t : ℕ} (s : StoredNodes at half frame work g after t) where
     -- so is one that has been loaded
     pub loaded-small : (i : ℕ) → i < half + half → (v : List ℕ) → v ≡ vectorAt (frame ++ after) (at + i) → Small v
     loaded-small i l v e = subst Small (sym (e ∙ s .kept (at + i) (omega arith))) (source-small i l)
@@ -98,8 +88,8 @@ module _ {at half start : ℕ} {cs frame work : List ℕ} (given : KernelsGiven 
       other i ne = ap (λ (ys : List ℕ). vectorAt ys i) both ∙ with-other (frame ++ after) number (λ c. getD v c 0) in-both i ne
 
       -- one vector more
-      pub layer-more : (next : List ℕ) → next ≡ stored after (at + (half + half) - length frame / 64 + t) v → LaidTo at half frame work g next (t + 1)
-      layer-more next w = subst (λ (x : List ℕ). LaidTo at half frame work g x (t + 1)) (sym w) (record {
+      pub layer-more : (next : List ℕ) → next ≡ stored after (at + (half + half) - length frame / 64 + t) v → StoredNodes at half frame work g next (t + 1)
+      layer-more next w = subst (λ (x : List ℕ). StoredNodes at half frame work g x (t + 1)) (sym w) (record {
         few = omega arith;
         long = ap length (stored-there after there in-after v) ∙ with-long after there (λ c. getD v c 0) in-after ∙ s .long;
         kept = λ i k. other i (λ z. absurd (omega arith)) ∙ s .kept i k;
@@ -111,9 +101,3 @@ module _ {at half start : ℕ} {cs frame work : List ℕ} (given : KernelsGiven 
           go i k (no m) =
               let z : t ≡ i = omega arith in
               subst (λ (j : ℕ). vectorAt (frame ++ stored after there v) (at + (half + half) + j) ≡ g j) z (here ∙ q)
-
--- the only entry of a list written
-pub set-only : (xs : List ℕ) (x : ℕ) → length xs ≡ 1 → set xs 0 x ≡ x ∷ []
-set-only [] x e = absurd (omega arith)
-set-only (y ∷ []) x e = refl
-set-only (y ∷ (z ∷ zs)) x e = absurd (omega arith)

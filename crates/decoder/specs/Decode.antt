@@ -27,12 +27,12 @@ returned (Refused number) = record { number = number; values = [] }
 
 module _ (n : ℕ) (map cs : List ℕ) (qc qm : ℕ) (frame work symbols report : List ℕ) where
   -- the number of the refusal, 0 where the call is accepted
-  abbrev number : ℕ
-  number = decodeRefusal n map cs qc qm frame work symbols report
+  abbrev refusal : ℕ
+  refusal = decodeRefusal n map cs qc qm frame work symbols report
 
   -- the call is accepted: no row of the table fits
   abbrev pub Accepted : Type 0
-  Accepted = number ≡ 0
+  Accepted = refusal ≡ 0
 
   -- the cap, 2^Qm − 1
   abbrev cap : ℕ
@@ -40,11 +40,11 @@ module _ (n : ℕ) (map cs : List ℕ) (qc qm : ℕ) (frame work symbols report 
 
   -- what is made where the call is accepted, or on a refusal what is kept
   abbrev either : List ℕ → List ℕ → List ℕ
-  either made kept = cond (eqb number 0) made kept
+  either made kept = cond (eqb refusal 0) made kept
 
   -- the answer: the refusal, or the count of clipped entries over all variable nodes
   unfoldable pub decodeAnswer : Returned
-  decodeAnswer = record { number = number; values = either (scms.count n cap cs map frame ∷ []) [] }
+  decodeAnswer = record { number = refusal; values = either (scms.count n cap cs map frame ∷ []) [] }
 
   -- the buffer for the symbols: those decided
   unfoldable pub decodeSymbols : List ℕ

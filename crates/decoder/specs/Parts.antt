@@ -44,11 +44,13 @@ pub record KernelsGiven (at half start : ℕ) (cs frame work : List ℕ) : Type 
   pub long : 64 * (at + (half + half) + half) ≤ length frame + length work
   pub most : (i : ℕ) → i < half + half → AtMost 8191 (vectorAt (frame ++ work) (at + i))
 
--- the check nodes of the first `count` kernels, made from one list, stand in another after the block's vectors
+-- the check node of kernel t, made from the block's vectors
+abbrev pub checkAt : (at half start : ℕ) (cs source : List ℕ) (t : ℕ) → List ℕ
+checkAt at half start cs source t = checkNode (getD cs (start + t) 1) (vectorAt source (at + t)) (vectorAt source (at + (half + t)))
+
+-- those of the first `count` kernels, made from one list, stand in another after the block's vectors
 abbrev pub AreCheckNodes : (count at half start : ℕ) (cs source target : List ℕ) → Type 0
-AreCheckNodes count at half start cs source target =
-    (t : ℕ) → t < count
-    → vectorAt target (at + (half + half) + t) ≡ checkNode (getD cs (start + t) 1) (vectorAt source (at + t)) (vectorAt source (at + (half + t)))
+AreCheckNodes count at half start cs source target = (t : ℕ) → t < count → vectorAt target (at + (half + half) + t) ≡ checkAt at half start cs source t
 
 -- what `check_nodes` leaves, of the work buffer before and after it
 pub record CheckNodesWritten (at half start : ℕ) (cs frame work after : List ℕ) : Type 0 where
@@ -60,12 +62,15 @@ pub record FirstSymbols (half : ℕ) (word : List ℕ) : Type 0 where
   pub enough : half ≤ length word
   pub symbols : (t : ℕ) → t < half → getD word t 0 < 64
 
--- the variable nodes of the first `count` kernels, as the check nodes above
+-- the variable node of kernel t
+abbrev pub variableAt : (at half start cap : ℕ) (cs word source : List ℕ) (t : ℕ) → List ℕ
+variableAt at half start cap cs word source t =
+    variableNode cap (getD cs (start + t) 1) (getD word t 0) (vectorAt source (at + t)) (vectorAt source (at + (half + t)))
+
+-- those of the first `count` kernels, as the check nodes above
 abbrev pub AreVariableNodes : (count at half start cap : ℕ) (cs word source target : List ℕ) → Type 0
 AreVariableNodes count at half start cap cs word source target =
-    (t : ℕ) → t < count
-    → vectorAt target (at + (half + half) + t)
-    ≡ variableNode cap (getD cs (start + t) 1) (getD word t 0) (vectorAt source (at + t)) (vectorAt source (at + (half + t)))
+    (t : ℕ) → t < count → vectorAt target (at + (half + half) + t) ≡ variableAt at half start cap cs word source t
 
 -- and their count of clipped entries
 abbrev pub clippedTo : (count at half start cap : ℕ) (cs word source : List ℕ) → ℕ
@@ -113,7 +118,6 @@ pub record BlockGiven (m start cap at : ℕ) (cs map frame work word symbols rep
   pub report-long : length report ≡ 64 * 2 ^ m
   pub whole : length frame ≡ 64 * (length frame / 64)
   pub in-work : length frame / 64 ≤ at + 2 ^ m
-  pub few-vectors : at + (2 ^ m + 2 ^ m) ≤ 512
   pub long : 64 * (at + (2 ^ m + 2 ^ m)) ≤ length frame + length work + 64
   pub vectors : (i : ℕ) → i < 2 ^ m → BlockVector (vectorAt (frame ++ work) (at + i))
 

@@ -53,11 +53,13 @@ fn count_numbers(s: &[u16], x: u64) -> u64
 }
 
 // How many bytes of a buffer are x.
-fn count_bytes(s: &[u8], x: u8) -> u64 {
+fn count_bytes(s: &[u8], x: u8) -> u64
+    ensures { λ r. ⌜ r ≤ length (now (s .entry)) ⌝ }
+{
     let mut count: u64 = 0;
     let mut i: usize = 0;
     while i < s.len() {
-        count = count % 65536 + same_byte(s[i], x);
+        count += same_byte(s[i], x);
         i += 1;
     }
     count

@@ -1,4 +1,4 @@
-// `decode` on pseudo-random inputs: frames that are taken, of each length, calls with one damage, and calls with two.
+// `decode` on pseudo-random inputs: frames that are taken, of each length, calls with one damage or none, and calls with up to two.
 use crate::code::kernels;
 use crate::code::places;
 use crate::damages::damage_bytes;
@@ -18,7 +18,7 @@ use crate::frames::draw_word;
 use crate::frames::drawn_qm;
 use crate::frames::largest;
 
-// Decodes what was drawn with the buffers to write to, which come with other numbers in them.
+// Decodes what was drawn. The three buffers hold 4711 or 255 everywhere before the call.
 fn decode_drawn(call: Call, map: &[u8], coefs: &[u8], frame: &[u16]) {
     let mut work = [4711u16; 16641];
     let mut symbols = [255u8; 257];
@@ -116,7 +116,7 @@ fn run_alone(state: u64) -> u64 {
     last
 }
 
-// Draws 240 calls with two damages.
+// Draws 240 calls with up to two damages.
 fn run_damaged(state: u64) {
     let mut last = state;
     let mut i: usize = 0;

@@ -65,7 +65,7 @@ pub(crate) fn largest(qc: u32) -> usize {
 }
 
 // A penalty of at most `most`, which is one less than a power of 2: any for mode 0; mostly 0 or 1 for mode 1; mostly `most` for mode 2. One
-// draw is taken modulo two numbers, 15 or 31 and a power of 2: they have no common divisor, so what one gives leaves the other open.
+// draw is taken modulo two numbers, 15 or 31 and a power of 2: they have no common divisor but 1, so what one gives leaves the other open.
 fn drawn_penalty(mode: usize, state: u64, most: usize) -> usize {
     if mode == 1 && drawn(state, 15) < 13 {
         return drawn(state, 2);

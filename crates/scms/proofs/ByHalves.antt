@@ -26,7 +26,7 @@ use Rattle.scms.proofs.Unclipped.{count-zero}
 use Rattle.scms.proofs.BlockSums.{clippedIn, takenFrom, taken-more, clipped-more, taken-first, taken-second, clipped-sum, taken-sum, checks, variables}
 
 -- a function of three things that are equal to three others
-same-three : {A B C D : Type 0} {a a′ : A} {b b′ : B} {c c′ : C} (f : A → B → C → D) → a ≡ a′ → b ≡ b′ → c ≡ c′ → f a b c ≡ f a′ b′ c′
+pub same-three : {A B C D : Type 0} {a a′ : A} {b b′ : B} {c c′ : C} (f : A → B → C → D) → a ≡ a′ → b ≡ b′ → c ≡ c′ → f a b c ≡ f a′ b′ c′
 same-three f p q r = λ i. f (p i) (q i) (r i)
 
 -- a word that the decoder by halves answers: in every block the vectors, the count and what was taken off are those by index

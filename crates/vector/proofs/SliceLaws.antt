@@ -44,7 +44,7 @@ vector-second n xs ys i e =
     ap (λ (k : ℕ). take 64 (drop k (xs ++ ys))) q ∙ ap (take 64) (drop-append-add xs ys (64 * i))
 
 -- the vectors of a slice's first n vectors
-pub vector-take : (n : ℕ) (xs : List ℕ) (i : ℕ) → i < n → vectorAt (take (64 * n) xs) i ≡ vectorAt xs i
+vector-take : (n : ℕ) (xs : List ℕ) (i : ℕ) → i < n → vectorAt (take (64 * n) xs) i ≡ vectorAt xs i
 vector-take n xs i l = go (decLe (64 * n) (length xs))
   where
     go : Dec (64 * n ≤ length xs) → vectorAt (take (64 * n) xs) i ≡ vectorAt xs i
@@ -54,7 +54,7 @@ vector-take n xs i l = go (decLe (64 * n) (length xs))
     go (no k) = ap (λ (ys : List ℕ). vectorAt ys i) (take-all (64 * n) xs (omega arith))
 
 -- and of what is left without them
-pub vector-drop : (n : ℕ) (xs : List ℕ) (i : ℕ) → vectorAt (drop (64 * n) xs) i ≡ vectorAt xs (n + i)
+vector-drop : (n : ℕ) (xs : List ℕ) (i : ℕ) → vectorAt (drop (64 * n) xs) i ≡ vectorAt xs (n + i)
 unfolding vectorAt
 vector-drop n xs i =
     let q : 64 * n + 64 * i ≡ 64 * (n + i) = omega arith in

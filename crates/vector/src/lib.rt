@@ -1,4 +1,5 @@
-// Vectors of 64 numbers, one for each value of a symbol: the least entry, each entry less the least, and the vectors of a slice.
+// Vectors of 64 numbers, one for each value of a symbol: the least entry, each entry less the least, the vectors of a slice, and
+// the largest penalty of a precision.
 ghost use mathlib.Core.Path.{_≡_};
 ghost use Rattle.vector.specs.Vector.{least, lessLeast, loaded, stored};
 ghost use Rattle.vector.specs.Frame.{largest};

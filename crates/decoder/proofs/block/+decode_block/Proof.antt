@@ -15,7 +15,7 @@ use Rattle.decoder.proofs.block.decode_block.Kinds as block-kinds
 use Rattle.decoder.proofs.block.+decode_block.Lts-decode_block as lts
 use Rattle.decoder.proofs.block.decode_place.Reads as place-reads
 use Rattle.decoder.proofs.layers.check_nodes.Reads as check-reads
-use Rattle.decoder.proofs.layers.variable_nodes.Reads as vary-reads
+use Rattle.decoder.proofs.layers.variable_nodes.Reads as variable-reads
 use Rattle.polar.proofs.join_halves.Reads as join-reads
 use Rattle.decoder.proofs.block.+decode_block.{statement}
 use Rattle.decoder.proofs.block.+decode_block.Tie.{close}
@@ -39,8 +39,8 @@ calls t = (
   check-reads.Learnt,
   below t,
   block-reads.Post,
-  vary-reads.Asked,
-  vary-reads.Learnt,
+  variable-reads.Asked,
+  variable-reads.Learnt,
   join-reads.Asked,
   join-reads.Learnt,
 )
@@ -58,8 +58,8 @@ to-checked t c = c .before .before .before .before .before .before .before .befo
 abbrev to-first : (t : ℕ) → lts.After-variable-nodes (calls t) (given t) block-reads.Post → lts.After-decode-block (calls t) (given t) block-reads.Post
 to-first t c = c .before .before .before .before .before .before .before .before .before .before .before
 
-abbrev to-varied : (t : ℕ) → lts.After-decode-block2 (calls t) (given t) block-reads.Post → lts.After-variable-nodes (calls t) (given t) block-reads.Post
-to-varied t c = c .before .before .before .before .before .before .before .before
+abbrev to-variable : (t : ℕ) → lts.After-decode-block2 (calls t) (given t) block-reads.Post → lts.After-variable-nodes (calls t) (given t) block-reads.Post
+to-variable t c = c .before .before .before .before .before .before .before .before
 
 abbrev to-second : (t : ℕ) → lts.After-join-halves (calls t) (given t) block-reads.Post → lts.After-decode-block2 (calls t) (given t) block-reads.Post
 to-second t c = c .before .before .before .before .before .before .before .before .before .before
@@ -91,13 +91,13 @@ first-half t c = record {
 }
 
 -- the work buffer keeps its length at the variable nodes
-varied-long : (t : ℕ) (c : lts.After-variable-nodes (calls t) (given t) block-reads.Post) → length (c .variable-nodes .last .1 .1 .1 .1 .1 .1 .1 .0) ≡ length (to-first t c .decode-block .last .1 .1 .1 .1 .1 .1 .1 .0)
-varied-long t c = c .variable-nodes .kept .1 .1 .1 .1 .1 .1 .1 .0
+variable-long : (t : ℕ) (c : lts.After-variable-nodes (calls t) (given t) block-reads.Post) → length (c .variable-nodes .last .1 .1 .1 .1 .1 .1 .1 .0) ≡ length (to-first t c .decode-block .last .1 .1 .1 .1 .1 .1 .1 .0)
+variable-long t c = c .variable-nodes .kept .1 .1 .1 .1 .1 .1 .1 .0
 
 -- what is known after the second half
 second-half : (t : ℕ) (c : lts.After-decode-block2 (calls t) (given t) block-reads.Post)
-    → laws.SecondHalf (layer t (to-else t (to-checked t (to-first t (to-varied t c))))) (entry t (to-else t (to-checked t (to-first t (to-varied t c)))) .pre .1)
-    (first-half t (to-first t (to-varied t c))) (varied-long t (to-varied t c)) (to-varied t c .variable-nodes .ensures)
+    → laws.SecondHalf (layer t (to-else t (to-checked t (to-first t (to-variable t c))))) (entry t (to-else t (to-checked t (to-first t (to-variable t c)))) .pre .1)
+    (first-half t (to-first t (to-variable t c))) (variable-long t (to-variable t c)) (to-variable t c .variable-nodes .ensures)
     (c .decode-block2 .last .1 .1 .1 .1 .1 .1 .1 .0) (c .decode-block2 .last .1 .1 .1 .1 .1 .1 .1 .1 .0) (c .decode-block2 .last .1 .1 .1 .1 .1 .1 .1 .1 .1 .0) (c .decode-block2 .last .1 .1 .1 .1 .1 .1 .1 .1 .1 .1 .0) (c .decode-block2 .result)
 second-half t c = record { word-long = c .decode-block2 .kept .1 .1 .1 .1 .1 .1 .1 .1 .0; decoded = c .decode-block2 .ensures }
 
@@ -165,7 +165,7 @@ decode-block-requires : (t : ℕ) → lts.Need-decode-block-requires (calls t) (
 decode-block-requires t c κs = let e = to-else t (c .before .before .before .before .before .before .before) in (fewer (entry t e .args .layers) t (layer t e) (entry t e .pre .0), laws.at-first (layer t e) (entry t e .pre .1) (c .before .before .before .before .before .before .before .check-nodes .kept .1 .1 .1 .1 .1 .0) (c .before .before .before .before .before .before .before .check-nodes .ensures))
 
 variable-nodes-requires : (t : ℕ) → lts.Need-variable-nodes-requires (calls t) (given t) block-reads.Post
-variable-nodes-requires t c κs = let d = c .before .before .before .before .before .before .before .before .before .before in let e = to-else t (to-checked t d) in (laws.at-vary (layer t e) (entry t e .pre .1) (first-half t d), laws.at-symbols (layer t e) (entry t e .pre .1) (first-half t d))
+variable-nodes-requires t c κs = let d = c .before .before .before .before .before .before .before .before .before .before in let e = to-else t (to-checked t d) in (laws.at-variable (layer t e) (entry t e .pre .1) (first-half t d), laws.at-symbols (layer t e) (entry t e .pre .1) (first-half t d))
 
 sub-decode-block-2 : (t : ℕ) → lts.Need-sub-decode-block-2 (calls t) (given t) block-reads.Post
 sub-decode-block-2 t c = search needs
@@ -233,7 +233,7 @@ decode-block-requires-2 t c κs =
     let v = c .before .before .before .before .before .before .before in
     let d = to-first t v in
     let e = to-else t (to-checked t d) in
-    (fewer (entry t e .args .layers) t (layer t e) (entry t e .pre .0), laws.at-second (layer t e) (entry t e .pre .1) (first-half t d) (varied-long t v) (v .variable-nodes .ensures))
+    (fewer (entry t e .args .layers) t (layer t e) (entry t e .pre .0), laws.at-second (layer t e) (entry t e .pre .1) (first-half t d) (variable-long t v) (v .variable-nodes .ensures))
 
 join-halves-requires : (t : ℕ) → lts.Need-join-halves-requires (calls t) (given t) block-reads.Post
 join-halves-requires t c κs =
@@ -241,63 +241,63 @@ join-halves-requires t c κs =
 
 add-result : (t : ℕ) → lts.Need-add-result (calls t) (given t) block-reads.Post
 add-result t c =
-    let s = c .before .before .before .before .before .before .before .before .before .before .before .before in
-    let v = to-varied t s in
+    let s = to-second t (c .before .before) in
+    let v = to-variable t s in
     let d = to-first t v in
     let e = to-else t (to-checked t d) in
-    let n = laws.at-count (layer t e) (entry t e .pre .1) (first-half t d) (varied-long t v) (v .variable-nodes .ensures) (second-half t s) in
+    let n = laws.at-count (layer t e) (entry t e .pre .1) (first-half t d) (variable-long t v) (v .variable-nodes .ensures) (second-half t s) in
     omega arith
 
 add-result-2 : (t : ℕ) → lts.Need-add-result-2 (calls t) (given t) block-reads.Post
 add-result-2 t c =
-    let s = c .before .before .before .before .before .before .before .before .before .before .before .before in
-    let v = to-varied t s in
+    let s = to-second t (c .before .before) in
+    let v = to-variable t s in
     let d = to-first t v in
     let e = to-else t (to-checked t d) in
-    let n = laws.at-count (layer t e) (entry t e .pre .1) (first-half t d) (varied-long t v) (v .variable-nodes .ensures) (second-half t s) in
+    let n = laws.at-count (layer t e) (entry t e .pre .1) (first-half t d) (variable-long t v) (v .variable-nodes .ensures) (second-half t s) in
     omega arith
 
 same-length-5 : (t : ℕ) → lts.Need-same-length-5 (calls t) (given t) block-reads.Post
 same-length-5 t c =
-    let s = c .before .before .before .before .before .before .before .before .before .before .before .before in
-    let v = to-varied t s in
+    let s = to-second t (c .before .before) in
+    let v = to-variable t s in
     let d = to-first t v in
     let e = to-else t (to-checked t d) in
-    s .decode-block2 .kept .1 .1 .1 .1 .1 .1 .1 .0 ∙ varied-long t v ∙ first-half t d .work-long ∙ first-half t d .checked-long
+    s .decode-block2 .kept .1 .1 .1 .1 .1 .1 .1 .0 ∙ variable-long t v ∙ first-half t d .work-long ∙ first-half t d .checked-long
 
 same-length-6 : (t : ℕ) → lts.Need-same-length-6 (calls t) (given t) block-reads.Post
 same-length-6 t c =
-    let s = c .before .before .before .before .before .before .before .before .before .before .before .before in
-    let v = to-varied t s in
+    let s = to-second t (c .before .before) in
+    let v = to-variable t s in
     let d = to-first t v in
     let e = to-else t (to-checked t d) in
     c .before .before .join-halves .kept .1 .1 .1 .0 ∙ polar.lent-whole (length (entry t e .args .map .now) / 2) (entry t e .args .word .now) (d .decode-block .last .1 .1 .1 .1 .1 .1 .1 .1 .0) (d .decode-block .kept .1 .1 .1 .1 .1 .1 .1 .1 .0) (sizes t e .in-word) (s .decode-block2 .last .1 .1 .1 .1 .1 .1 .1 .1 .0) (s .decode-block2 .kept .1 .1 .1 .1 .1 .1 .1 .1 .0)
 
 same-length-7 : (t : ℕ) → lts.Need-same-length-7 (calls t) (given t) block-reads.Post
 same-length-7 t c =
-    let s = c .before .before .before .before .before .before .before .before .before .before .before .before in
-    let v = to-varied t s in
+    let s = to-second t (c .before .before) in
+    let v = to-variable t s in
     let d = to-first t v in
     let e = to-else t (to-checked t d) in
     polar.lent-whole (length (entry t e .args .map .now) / 2) (entry t e .args .symbols .now) (d .decode-block .last .1 .1 .1 .1 .1 .1 .1 .1 .1 .0) (d .decode-block .kept .1 .1 .1 .1 .1 .1 .1 .1 .1 .0) (sizes t e .in-symbols) (s .decode-block2 .last .1 .1 .1 .1 .1 .1 .1 .1 .1 .0) (s .decode-block2 .kept .1 .1 .1 .1 .1 .1 .1 .1 .1 .0)
 
 same-length-8 : (t : ℕ) → lts.Need-same-length-8 (calls t) (given t) block-reads.Post
 same-length-8 t c =
-    let s = c .before .before .before .before .before .before .before .before .before .before .before .before in
-    let v = to-varied t s in
+    let s = to-second t (c .before .before) in
+    let v = to-variable t s in
     let d = to-first t v in
     let e = to-else t (to-checked t d) in
     polar.lent-whole (64 * (length (entry t e .args .map .now) / 2)) (entry t e .args .report .now) (d .decode-block .last .1 .1 .1 .1 .1 .1 .1 .1 .1 .1 .0) (d .decode-block .kept .1 .1 .1 .1 .1 .1 .1 .1 .1 .1 .0) (sizes t e .in-report) (s .decode-block2 .last .1 .1 .1 .1 .1 .1 .1 .1 .1 .1 .0) (s .decode-block2 .kept .1 .1 .1 .1 .1 .1 .1 .1 .1 .1 .0)
 
 returns-2 : (t : ℕ) → lts.Need-returns-2 (calls t) (given t) block-reads.Post
 returns-2 t c =
-    let s = c .before .before .before .before .before .before .before .before .before .before .before .before in
-    let v = to-varied t s in
+    let s = to-second t (c .before .before) in
+    let v = to-variable t s in
     let d = to-first t v in
     let e = to-else t (to-checked t d) in
     let j = c .before .before .join-halves in
-    let g = laws.at-joins (layer t e) (entry t e .pre .1) (first-half t d) (varied-long t v) (v .variable-nodes .ensures) (second-half t s) in
-    laws.at-done (layer t e) (entry t e .pre .1) (first-half t d) (varied-long t v) (v .variable-nodes .ensures) (second-half t s) (j .kept .1 .1 .1 .0) (j .ensures .joins g)
+    let g = laws.at-joins (layer t e) (entry t e .pre .1) (first-half t d) (variable-long t v) (v .variable-nodes .ensures) (second-half t s) in
+    laws.at-done (layer t e) (entry t e .pre .1) (first-half t d) (variable-long t v) (v .variable-nodes .ensures) (second-half t s) (j .kept .1 .1 .1 .0) (j .ensures .joins g)
 
 pub +decode-block-spec : {M : Type 1} → statement M
 +decode-block-spec =

@@ -9,7 +9,7 @@ use Rattle.vector.specs.Vector.{vectorAt}
 use Rattle.polar.specs.Code.{kindOf}
 use Rattle.scms.specs.Decision.{decision}
 use Rattle.vector.proofs.SliceLaws.{stored-is}
-use Rattle.decoder.proofs.LayerLaws.{set-only}
+use Rattle.decoder.proofs.Laws.{set-only}
 use Rattle.decoder.proofs.block.decode_place.Statement.{statement}
 use Rattle.decoder.proofs.block.decode_place.Tie as tie
 

@@ -6,12 +6,13 @@ use native.Mathlib.Omega.{arith}
 use borrow.Author.Needs.{needs}
 use Rattle.scms.specs.Nodes.{checkNode}
 use Rattle.scms.proofs.NodeLaws.{check-long}
-use Rattle.decoder.proofs.LayerLaws.{checkAt, LaidTo, layer-none, layer-more, loaded-small, node-is}
+use Rattle.decoder.specs.Parts.{checkAt}
+use Rattle.decoder.proofs.LayerLaws.{StoredNodes, layer-none, layer-more, loaded-small, node-is}
 use Rattle.decoder.proofs.layers.check_nodes.Statement.{statement}
 use Rattle.decoder.proofs.layers.check_nodes.Tie as tie
 
 abbrev Inv-loop : tie.InvT-loop
-Inv-loop at half start coefs frame work₀ to t₀ work t = LaidTo at half frame work₀ (checkAt at half start coefs (frame ++ work₀)) work t
+Inv-loop at half start coefs frame work₀ to t₀ work t = StoredNodes at half frame work₀ (checkAt at half start coefs (frame ++ work₀)) work t
 
 abbrev μ-loop : tie.MeasureT-loop
 μ-loop at half start coefs frame work₀ to t₀ work t = half - t

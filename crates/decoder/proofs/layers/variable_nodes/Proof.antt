@@ -9,14 +9,14 @@ use Rattle.vector.specs.Vector.{sumTo}
 use Rattle.vector.proofs.Laws.{sum-more}
 use Rattle.scms.specs.Nodes.{variableNode, clippedEntries}
 use Rattle.scms.proofs.NodeLaws.{variable-long}
-use Rattle.decoder.specs.Parts.{clippedTo}
-use Rattle.decoder.proofs.LayerLaws.{variableAt, LaidTo, layer-none, layer-more, loaded-small, node-is}
+use Rattle.decoder.specs.Parts.{variableAt, clippedTo}
+use Rattle.decoder.proofs.LayerLaws.{StoredNodes, layer-none, layer-more, loaded-small, node-is}
 use Rattle.decoder.proofs.layers.variable_nodes.Statement.{statement}
 use Rattle.decoder.proofs.layers.variable_nodes.Tie as tie
 
 abbrev Inv-loop : tie.InvT-loop
 Inv-loop at half start coefs cap word frame work₀ to count₀ t₀ work count t =
-    LaidTo at half frame work₀ (variableAt at half start cap coefs word (frame ++ work₀)) work t
+    StoredNodes at half frame work₀ (variableAt at half start cap coefs word (frame ++ work₀)) work t
     × (count ≡ clippedTo t at half start cap coefs word (frame ++ work₀)) × (count ≤ 64 * t)
 
 abbrev μ-loop : tie.MeasureT-loop

@@ -1,4 +1,4 @@
--- `count_bytes` ends.
+-- `count_bytes` counts at most as many bytes as there are, and ends.
 use Prim.Native.Nat.{_-_, _≤_}
 use lib.ListN.{length}
 use borrow.Author.Needs.{needs}
@@ -6,7 +6,7 @@ use Rattle.outside_cases.proofs.decoded.count_bytes.Statement.{statemen
 use Rattle.outside_cases.proofs.decoded.count_bytes.Tie as tie
 
 abbrev Inv-loop : tie.InvT-loop
-Inv-loop s x count₀ i₀ count i = i ≤ length s
+Inv-loop s x count₀ i₀ count i = (count ≤ i) × (i ≤ length s)
 
 abbrev μ-loop : tie.MeasureT-loop
 μ-loop s x count₀ i₀ count i = length s - i

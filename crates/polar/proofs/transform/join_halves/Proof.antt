@@ -1,4 +1,4 @@
--- `join_halves` meets its contract: past the tests the halves are as `join_kernels` wants them.
+-- `join_halves` meets its contract: past the tests the halves are as `join_kernels` asks.
 use borrow.Author.Needs.{needs}
 use Rattle.polar.proofs.transform.join_halves.Statement.{statement}
 use Rattle.polar.proofs.transform.join_halves.Tie as tie
