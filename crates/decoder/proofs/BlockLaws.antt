@@ -20,13 +20,15 @@ use Rattle.polar.proofs.OneToOne.{Symbol, transform-symbols, coef-nonzero}
 use Rattle.polar.proofs.BlockLaws as polar
 use Rattle.polar.proofs.BlockLaws.{tail, put, tail-drop, front-long, lent-tail, lent-both, split}
 use Rattle.vector.proofs.Laws.{sum-ext}
+use Rattle.vector.proofs.SliceLaws.{vector-drop}
 use Rattle.scms.specs.Nodes.{checkNode, variableNode, clippedEntries}
 use Rattle.scms.specs.Decision.{decision}
-use Rattle.scms.specs.Halves.{Vectors, decodeTree}
+use Rattle.scms.specs.Halves.{Vectors, decodeTree, frameTree}
 use Rattle.scms.proofs.NodeLaws.{check-zero, check-most, variable-zero, variable-cap}
+use Rattle.scms.proofs.TreeLists.{frame-at}
 use Rattle.scms.proofs.TreeDecoder.{decoded-symbols, word-transform}
 use Rattle.decoder.specs.Parts.{Kept, KernelsGiven, CheckNodesWritten, FirstSymbols, AreVariableNodes, clippedTo, VariableNodesWritten, OnePlace, PlaceDecoded, BlockVector, BlockGiven, vectorsFrom, blockAnswer, BlockDecoded, WorkDecoded}
-use Rattle.decoder.proofs.HalvesLaws.{vectors-at, Step, step}
+use Rattle.decoder.proofs.HalvesLaws.{Step, step}
 
 -- ---- words
 
@@ -58,13 +60,15 @@ count-small m count l h = let a = mul-le-mul {n₁ = m} {m₁ = 2 ^ m} {n₂ = 8
 -- ---- a block with a layer
 
 module _ {L start cap o : ℕ} {cs map frame work word symbols report : List ℕ} (ne : L ≡ 0 → ⊥) (g : BlockGiven L start cap o cs map frame work word symbols report) where
-  -- the places of a half, and where the vectors of a half begin
+  -- the places of a half
   abbrev half : ℕ
   half = length map / 2
 
+  -- the number from which on the vectors of a half stand
   abbrev next : ℕ
   next = o + (half + half)
 
+  -- how much further on the coefficients of the next layer are
   abbrev stride : ℕ
   stride = length frame / 128
 
@@ -72,6 +76,7 @@ module _ {L start cap o : ℕ} {cs map frame work word symbols report : List ℕ
   one : 2 ^ (L - 1) ≡ half
   one = split (λ (x q h : ℕ). 2 ^ q ≡ h) (λ p. refl) L half ne (g .block .halved)
 
+  -- and the block twice as many
   two : 2 ^ L ≡ half + half
   two = split (λ (x q h : ℕ). 2 ^ x ≡ h + h) two-pow L half ne (g .block .halved)
 
@@ -85,6 +90,7 @@ module _ {L start cap o : ℕ} {cs map frame work word symbols report : List ℕ
     pub in-symbols : half ≤ length symbols
     pub in-report : 64 * half ≤ length report
 
+  -- it has them
   pub at-sizes : Sizes
   at-sizes =
       let z = polar.at-sizes ne (g .block) in
@@ -180,10 +186,11 @@ module _ {L start cap o : ℕ} {cs map frame work word symbols report : List ℕ
     kept2 : Kept next (frame ++ work) (frame ++ work2)
     kept2 i l = f .decoded .kept i (omega arith) ∙ f .checked .kept i l
 
-    -- the symbols of the first half
+    -- the word of the first half has a symbol for each of its places
     wA-long : length wA ≡ half
     wA-long = front-long half word wA (f .word-long) (at-sizes .in-word)
 
+    -- and is the first part of the word so far
     in-first : (t : ℕ) → t < half → getD w t 0 ≡ getD wA t 0
     in-first t l = List·getD-append wA (drop half word) 0 t (let e = wA-long in omega arith)
 
@@ -191,6 +198,7 @@ module _ {L start cap o : ℕ} {cs map frame work word symbols report : List ℕ
     pub at-variable : KernelsGiven o half start cs frame work2
     at-variable = at-layer (f .work-long ∙ f .checked-long) kept2
 
+    -- the symbols among it
     pub at-symbols : FirstSymbols half w
     at-symbols = record {
       enough = (let e = polar.lent-long half word wA (f .word-long) (at-sizes .in-word) in let z = at-sizes .in-word in omega arith);
@@ -241,6 +249,7 @@ module _ {L start cap o : ℕ} {cs map frame work word symbols report : List ℕ
             v .nodes t l
             ∙ ap₂ (λ (x y : List ℕ). variableNode cap (getD cs (start + t) 1) (getD w t 0) x y) (kept2 (o + t) (omega arith)) (kept2 (o + (half + t)) (omega arith))
 
+        -- and their count of clipped entries
         counted : clipped ≡ clippedTo half o half start cap cs w (frame ++ work)
         counted =
             v .count-is
@@ -273,10 +282,14 @@ module _ {L start cap o : ℕ} {cs map frame work word symbols report : List ℕ
 
 -- ---- one place
 
--- the one vector of a block with no layer
-one-vector : (o : ℕ) (source : List ℕ) → vectorsFrom 0 o source ≡ vectorAt source o
+-- the one vector of a frame of one place
+one-vector : (xs : List ℕ) → frameTree 0 xs ≡ vectorAt xs 0
 unfolding at number
-one-vector o source = vectors-at 0 o source here ∙ ap (vectorAt source) (add-zero o)
+one-vector xs = frame-at 0 xs here
+
+-- the one from number o on
+one-from : (o : ℕ) (source : List ℕ) → vectorsFrom 0 o source ≡ vectorAt source o
+one-from o source = one-vector (drop (64 * o) source) ∙ vector-drop o source 0 ∙ ap (vectorAt source) (add-zero o)
 
 -- its place, decoded
 one-place : (start stride cap o : ℕ) (cs map source w s r : List ℕ)
@@ -285,11 +298,11 @@ one-place : (start stride cap o : ℕ) (cs map source w s r : List ℕ)
 unfolding decodeTree treeOf leaves
 one-place start stride cap o cs map source w s r ew es er =
     let e : decision (kindOf (getD map 0 0)) (vectorAt source o) ∷ [] ≡ decision (kindOf (getD map 0 0)) (vectorsFrom 0 o source) ∷ []
-    = ap (λ (v : List ℕ). decision (kindOf (getD map 0 0)) v ∷ []) (sym (one-vector o source)) in
+    = ap (λ (v : List ℕ). decision (kindOf (getD map 0 0)) v ∷ []) (sym (one-from o source)) in
     record {
       word-is = ew ∙ e;
       symbols-are = es ∙ e;
-      report-is = one-vector 0 r ∙ er ∙ sym (one-vector o source);
+      report-is = one-vector r ∙ er ∙ sym (one-from o source);
       count-is = refl;
       few = omega arith;
     }

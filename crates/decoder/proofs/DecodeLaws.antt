@@ -6,17 +6,17 @@ use native.Mathlib.Nat.{zero-add}
 use native.Mathlib.Omega.{arith}
 use lib.ListN.{length, replicate}
 use Rattle.refusal.proofs.Laws.{when-taken, when-refused}
-use Rattle.vector.specs.Vector.{tabulate, vectorAt}
-use Rattle.vector.proofs.Laws.{getD-tabulate}
+use Rattle.vector.specs.Vector.{vectorAt}
 use Rattle.vector.proofs.SliceLaws.{vector-first, joined-by}
 use Rattle.polar.specs.Tree.{at, number}
 use Rattle.polar.specs.Parts.{Block}
-use Rattle.polar.proofs.TreeLaws.{number-lt, place-of, treeOf-at, leaves-number}
+use Rattle.polar.proofs.TreeLaws.{number-lt, place-of, leaves-number}
 use Rattle.polar.proofs.EncodeLaws.{word-block}
 use Rattle.scms.specs.Decoder as scms
 use Rattle.scms.specs.Decoder.{capOf}
 use Rattle.scms.specs.Totals.{EachZero}
 use Rattle.scms.specs.Halves.{Vectors, frameTree, decodeHalves}
+use Rattle.scms.proofs.TreeLists.{frame-at}
 use Rattle.scms.proofs.ByHalves.{same-answer}
 use Rattle.scms.proofs.AnswerLaws.{report-place}
 use Rattle.scms.proofs.Unclipped.{count-zero, never-clipped}
@@ -29,7 +29,7 @@ use Rattle.decoder.specs.declared.decoder.Answer as enum
 use Rattle.decoder.specs.declared.decoder.Answer.the-variants.{Count, Refused}
 use Rattle.decoder.specs.Decode.{returned, decodeAnswer, decodeSymbols, decodeReport, decodeWork, Decoded}
 use Rattle.decoder.proofs.RefusalLaws.{taken, each-zero, each-cap, each-31}
-use Rattle.decoder.proofs.HalvesLaws.{vectors-at, vectors-by}
+use Rattle.decoder.proofs.HalvesLaws.{vectors-by}
 
 module _ {n : ℕ} {map cs : List ℕ} {qc qm : ℕ} {frame work symbols report : List ℕ} where
   -- ---- what is decoded
@@ -70,10 +70,9 @@ module _ {n : ℕ} {map cs : List ℕ} {qc qm : ℕ} {frame work symbols report 
     -- what it leaves is the answer by halves of the frame
     module _ {cap : ℕ} (ec : cap ≡ capOf qm) {word ss rs : List ℕ} {count : ℕ} (lr : length rs ≡ 64 * 2 ^ n)
         (d : BlockDecoded n 0 (length frame / 128) cap cs map (vectorsFrom n 0 (frame ++ work)) word ss rs count) where
+      -- the vectors of the whole word are the frame's
       frame-tree : vectorsFrom n 0 (frame ++ work) ≡ frameTree n frame
-      unfolding frameTree
-      frame-tree = vectors-by n 0 (frame ++ work) (frameTree n frame) (λ p.
-          vector-is (number p) (number-lt p) ∙ sym (treeOf-at [] (tabulate (2 ^ n) (vectorAt frame)) p ∙ getD-tabulate [] (2 ^ n) (vectorAt frame) (number p) (number-lt p)))
+      frame-tree = vectors-by n 0 (frame ++ work) (frameTree n frame) (λ p. vector-is (number p) (number-lt p) ∙ sym (frame-at n frame p))
 
       -- by document 01's stride and cap
       by-halves : BlockDecoded n 0 (2 ^ n / 2) (capOf qm) cs map (frameTree n frame) word ss rs count
@@ -98,7 +97,7 @@ module _ {n : ℕ} {map cs : List ℕ} {qc qm : ℕ} {frame work symbols report 
       report-decoded = joined-by (2 ^ n) (scms.held n (capOf qm) cs map frame) rs lr (λ i l.
           let p = place-of n i l in
           let held = decodeHalves n (capOf qm) cs map frame .held in
-          ap (vectorAt rs) (sym (zero-add (number (p .0)) ∙ p .1)) ∙ sym (vectors-at n 0 rs (p .0)) ∙ ap (λ (f : Vectors n). at f (p .0)) (by-halves .report-is)
+          ap (vectorAt rs) (sym (p .1)) ∙ sym (frame-at n rs (p .0)) ∙ ap (λ (f : Vectors n). at f (p .0)) (by-halves .report-is)
           ∙ sym (leaves-number [] n i l held) ∙ same-answer n (capOf qm) cs map frame .same-held i l)
 
   -- ---- the promise

@@ -1,34 +1,36 @@
 -- One step of the decoder by halves: what a block leaves, from what its halves left and the nodes of the kernels that join them.
 use mathlib.Core.Path.{_≡_, sym, ap, ap₂, _∙_, subst}
-use mathlib.Core.List.{List, [], _++_}
+use mathlib.Core.List.{List, _++_}
 use Prim.Native.Nat.{ℕ, suc, _+_, _*_, _-_, _/_, _^_, _≤_, _<_}
-use native.Mathlib.Nat.{zero-add, suc-mul, mul-add}
+use native.Mathlib.Nat.{suc-mul, mul-add}
 use native.Mathlib.Omega.{arith}
 use lib.ListN.{length, getD, take, drop}
-use Rattle.vector.specs.Vector.{tabulate, vectorAt}
-use Rattle.vector.proofs.Laws.{getD-tabulate}
+use Rattle.vector.specs.Vector.{vectorAt}
 use Rattle.polar.specs.Tree.{Tree, map3, map4, treeOf, leaves, Place, first, second, at, number}
 use Rattle.polar.specs.Halves.{coefsAt}
 use Rattle.polar.specs.Join.{Joined}
 use Rattle.polar.proofs.Numbers.{two-pow}
-use Rattle.polar.proofs.TreeLaws.{number-lt, map3-at, map4-at, ext-at, treeOf-at, leaves-at}
+use Rattle.polar.proofs.TreeLaws.{number-lt, map3-at, map4-at, ext-at, leaves-at}
 use Rattle.scms.specs.Nodes.{checkNode, variableNode, clippedEntries}
-use Rattle.scms.specs.Halves.{Vectors, checkNodes, variableNodes, clippedNodes, decodeTree}
+use Rattle.scms.specs.Halves.{Vectors, frameTree, checkNodes, variableNodes, clippedNodes, decodeTree}
 use Rattle.scms.proofs.TreeSums.{tree-sum}
+use Rattle.scms.proofs.TreeLists.{frame-at}
 use Rattle.scms.proofs.ByHalves.{same-three}
 use Rattle.decoder.specs.Parts.{AreCheckNodes, AreVariableNodes, clippedTo, vectorsFrom, blockAnswer, BlockDecoded}
 use Rattle.polar.proofs.BlockLaws.{coef-at, joined-leaves}
-use Rattle.vector.proofs.SliceLaws.{vector-first, vector-second}
+use Rattle.vector.proofs.SliceLaws.{vector-first, vector-second, vector-drop}
+
+-- a frame's vectors are a tree's if each is
+pub frame-by : (m : ℕ) (frame : List ℕ) (f : Vectors m) → ((p : Place m) → vectorAt frame (number p) ≡ at f p) → frameTree m frame ≡ f
+frame-by m frame f h = ext-at m (frameTree m frame) f (λ p. frame-at m frame p ∙ h p)
 
 -- the vector at a place of a block is the one with its number
 pub vectors-at : (m o : ℕ) (source : List ℕ) (p : Place m) → at (vectorsFrom m o source) p ≡ vectorAt source (o + number p)
-unfolding vectorsFrom
-vectors-at m o source p =
-    treeOf-at [] (tabulate (2 ^ m) (λ i. vectorAt source (o + i))) p ∙ getD-tabulate [] (2 ^ m) (λ i. vectorAt source (o + i)) (number p) (number-lt p)
+vectors-at m o source p = frame-at m (drop (64 * o) source) p ∙ vector-drop o source (number p)
 
 -- a block's vectors are a tree's if each is
 pub vectors-by : (m o : ℕ) (source : List ℕ) (f : Vectors m) → ((p : Place m) → vectorAt source (o + number p) ≡ at f p) → vectorsFrom m o source ≡ f
-vectors-by m o source f h = ext-at m (vectorsFrom m o source) f (λ p. vectors-at m o source p ∙ h p)
+vectors-by m o source f h = frame-by m (drop (64 * o) source) f (λ p. vector-drop o source (number p) ∙ h p)
 
 -- a function of four things that are equal to four others
 same-four : {A B C D E : Type 0} {a a′ : A} {b b′ : B} {c c′ : C} {d d′ : D} (f : A → B → C → D → E) → a ≡ a′ → b ≡ b′ → c ≡ c′ → d ≡ d′
@@ -41,14 +43,16 @@ module _ (p start o : ℕ) (cs source : List ℕ) where
   abbrev H : Tree ℕ p
   H = treeOf 1 p (take (2 ^ p) (drop start cs))
 
-  -- the block's vectors, in its two halves
+  -- the block's vectors
   abbrev F : Vectors (suc p)
   F = vectorsFrom (suc p) o source
 
+  -- its vector at a place of the first half
   first-at : (q : Place p) → vectorAt source (o + number q) ≡ at (F .0) q
   unfolding at number
   first-at q = sym (vectors-at (suc p) o source (first q))
 
+  -- and of the second
   second-at : (q : Place p) → vectorAt source (o + (2 ^ p + number q)) ≡ at (F .1) q
   unfolding at number
   second-at q = sym (vectors-at (suc p) o source (second q))
@@ -80,14 +84,17 @@ module _ (p start o : ℕ) (cs source : List ℕ) where
 
 -- a report of two halves, one after the other
 module _ (p : ℕ) (a b : List ℕ) (la : length a ≡ 64 * 2 ^ p) where
-  report-first : vectorsFrom (suc p) 0 (a ++ b) .0 ≡ vectorsFrom p 0 a
-  report-first = sym (vectors-by p 0 a (vectorsFrom (suc p) 0 (a ++ b) .0) (λ q.
-      let l = number-lt q in
-      sym (vector-first (2 ^ p) a b (0 + number q) la (omega arith)) ∙ first-at p 0 0 [] (a ++ b) q))
+  -- its first half is the first report
+  report-first : frameTree (suc p) (a ++ b) .0 ≡ frameTree p a
+  unfolding at number
+  report-first = sym (frame-by p a (frameTree (suc p) (a ++ b) .0) (λ q.
+      sym (vector-first (2 ^ p) a b (number q) la (number-lt q)) ∙ sym (frame-at (suc p) (a ++ b) (first q))))
 
-  report-second : vectorsFrom (suc p) 0 (a ++ b) .1 ≡ vectorsFrom p 0 b
-  report-second = sym (vectors-by p 0 b (vectorsFrom (suc p) 0 (a ++ b) .1) (λ q.
-      ap (vectorAt b) (zero-add (number q)) ∙ sym (vector-second (2 ^ p) a b (number q) la) ∙ ap (vectorAt (a ++ b)) (sym (zero-add (2 ^ p + number q))) ∙ second-at p 0 0 [] (a ++ b) q))
+  -- its second half the second
+  report-second : frameTree (suc p) (a ++ b) .1 ≡ frameTree p b
+  unfolding at number
+  report-second = sym (frame-by p b (frameTree (suc p) (a ++ b) .1) (λ q.
+      sym (vector-second (2 ^ p) a b (number q) la) ∙ sym (frame-at (suc p) (a ++ b) (second q))))
 
 -- the count of a block: its halves' and that of the nodes that join them
 few-more : (p left clipped right : ℕ) → left ≤ 64 * (p * 2 ^ p) → clipped ≤ 64 * 2 ^ p → right ≤ 64 * (p * 2 ^ p) → left + clipped + right ≤ 64 * (suc p * 2 ^ suc p)
@@ -96,8 +103,9 @@ few-more p left clipped right a b c =
     let f : p * (2 ^ p + 2 ^ p) ≡ p * 2 ^ p + p * 2 ^ p = mul-add p (2 ^ p) (2 ^ p) in
     omega arith
 
--- what a block with L layers leaves: its halves have q layers and h places each
+-- the step of a block, whose vectors are those of `source` from number o on
 module _ (start stride cap o : ℕ) (cs map source : List ℕ) where
+  -- what a block with L layers leaves, from what its halves left, which have q layers and h places each
   abbrev pub Step : ℕ → ℕ → ℕ → Type 0
   Step L q h =
       (ys zs w wA wB after sA sB rA rB : List ℕ) (left clipped right : ℕ)
@@ -109,6 +117,7 @@ module _ (start stride cap o : ℕ) (cs map source : List ℕ) where
       → length rA ≡ 64 * h → length after ≡ 2 ^ L → Joined h start cs (wA ++ wB) after
       → BlockDecoded L start stride cap cs map (vectorsFrom L o source) after (sA ++ sB) (rA ++ rB) (left + clipped + right)
 
+  -- for L = p + 1 layers
   pub step : (p : ℕ) → Step (suc p) p (2 ^ p)
   unfolding decodeTree coefsAt treeOf leaves
   step p ys zs w wA wB after sA sB rA rB left clipped right checked dA hw variables ec fc dB lr la j =

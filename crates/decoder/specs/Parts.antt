@@ -2,15 +2,15 @@
 use Prim.Native.Nat.{ℕ, _+_, _*_, _/_, _^_, _≤_, _<_}
 use mathlib.Core.Path.{_≡_}
 use mathlib.Core.List.{List, [], _∷_, _++_}
-use lib.ListN.{length, getD}
-use Rattle.vector.specs.Vector.{tabulate, vectorAt, sumTo, HasZero, AtMost}
+use lib.ListN.{length, getD, drop}
+use Rattle.vector.specs.Vector.{vectorAt, sumTo, HasZero, AtMost}
 use Rattle.polar.specs.Code.{kindOf, Coefficients}
 use Rattle.polar.specs.Tree.{leaves, treeOf}
 use Rattle.polar.specs.Halves.{coefsAt}
 use Rattle.polar.specs.Parts.{Block}
 use Rattle.scms.specs.Nodes.{checkNode, variableNode, clippedEntries}
 use Rattle.scms.specs.Decision.{decision}
-use Rattle.scms.specs.Halves.{Vectors, BlockAnswer, decodeTree}
+use Rattle.scms.specs.Halves.{Vectors, BlockAnswer, decodeTree, frameTree}
 
 -- ---- one node
 
@@ -122,8 +122,8 @@ pub record BlockGiven (m start cap at : ℕ) (cs map frame work word symbols rep
   pub vectors : (i : ℕ) → i < 2 ^ m → BlockVector (vectorAt (frame ++ work) (at + i))
 
 -- a block's vectors, as a tree
-unfoldable pub vectorsFrom : (m at : ℕ) → List ℕ → Vectors m
-vectorsFrom m at source = treeOf [] m (tabulate (2 ^ m) (λ i. vectorAt source (at + i)))
+abbrev pub vectorsFrom : (m at : ℕ) → List ℕ → Vectors m
+vectorsFrom m at source = frameTree m (drop (64 * at) source)
 
 -- a block's answer, from its vectors
 abbrev pub blockAnswer : (m start stride cap : ℕ) (cs map : List ℕ) → Vectors m → BlockAnswer m
@@ -133,7 +133,7 @@ blockAnswer m start stride cap cs map f = decodeTree m cap (coefsAt m start stri
 pub record BlockDecoded (m start stride cap : ℕ) (cs map : List ℕ) (f : Vectors m) (word symbols report : List ℕ) (count : ℕ) : Type 0 where
   pub word-is : word ≡ leaves m (blockAnswer m start stride cap cs map f .word)
   pub symbols-are : symbols ≡ leaves m (blockAnswer m start stride cap cs map f .symbols)
-  pub report-is : vectorsFrom m 0 report ≡ blockAnswer m start stride cap cs map f .held
+  pub report-is : frameTree m report ≡ blockAnswer m start stride cap cs map f .held
   pub count-is : count ≡ blockAnswer m start stride cap cs map f .count
   pub few : count ≤ 64 * (m * 2 ^ m)
 

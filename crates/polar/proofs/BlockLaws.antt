@@ -84,6 +84,7 @@ module _ (p start : ℕ) (cs a b after : List ℕ) (A B : Tree ℕ p) (ea : a �
   H = treeOf 1 p (take (2 ^ p) (drop start cs))
 
   module _ (long : length after ≡ 2 ^ suc p) (j : Joined (2 ^ p) start cs (a ++ b) after) where
+    -- what stands at each place then
     joined-at : (q : Place (suc p)) → getD after (number q) 0 ≡ at (join p H A B) q
     unfolding join at number
     joined-at (first q) = j .sums (number q) (number-lt q) ∙ ap₂ _⊕_ (first-at q) (second-at q) ∙ sym (map2-at _⊕_ q A B)
@@ -96,21 +97,26 @@ module _ (p start : ℕ) (cs a b after : List ℕ) (A B : Tree ℕ p) (ea : a �
 -- ---- the step at p + 1 layers, whose halves have 2^p places
 
 module _ (p start stride : ℕ) (cs word : List ℕ) (given : Block (suc p) (2 ^ p) start stride cs word) where
+  -- the word has room for a half
   half-le : 2 ^ p ≤ length word
   half-le = let q = two-pow p in let e = given .long in omega arith
 
+  -- the coefficients of the kernels that join the halves are there
   room-join : start + 2 ^ p ≤ length cs
   unfolding Room
   room-join = given .room .0
 
+  -- those of the first half
   room-first : Room p (start + stride) stride (length cs)
   unfolding Room
   room-first = given .room .1
 
+  -- and of the second
   room-second : Room p (start + stride + 2 ^ p / 2) stride (length cs)
   unfolding Room
   room-second = given .room .2
 
+  -- what the call on the first half is given
   first-block : Block p (2 ^ p / 2) (start + stride) stride cs (take (2 ^ p) word)
   first-block = record {
     few-layers = (let l = given .few-layers in omega arith);
@@ -122,6 +128,7 @@ module _ (p start stride : ℕ) (cs word : List ℕ) (given : Block (suc p) (2 ^
   }
 
   module _ (a : List ℕ) (la : length a ≡ length (take (2 ^ p) word)) where
+    -- what the call on the second half is given
     second-block : Block p (2 ^ p / 2) (start + stride + 2 ^ p / 2) stride cs (tail (2 ^ p) (a ++ drop (2 ^ p) word))
     second-block = record {
       few-layers = (let l = given .few-layers in omega arith);
@@ -133,9 +140,11 @@ module _ (p start stride : ℕ) (cs word : List ℕ) (given : Block (suc p) (2 ^
     }
 
     module _ (b : List ℕ) (lb : length b ≡ length (tail (2 ^ p) (a ++ drop (2 ^ p) word))) where
+      -- the word when both halves are back
       abbrev w : List ℕ
       w = put (2 ^ p) (a ++ drop (2 ^ p) word) b
 
+      -- what the kernels that join them are given
       halves : Halves (2 ^ p) start cs w
       halves = record {
         few = (let l = pow-mono {i = p} {j = 7} (let m = given .few-layers in omega arith) in omega arith);
@@ -148,21 +157,26 @@ module _ (p start stride : ℕ) (cs word : List ℕ) (given : Block (suc p) (2 ^
           (ea : a ≡ blockTransform p (start + stride) stride cs (take (2 ^ p) word))
           (eb : b ≡ blockTransform p (start + stride + 2 ^ p / 2) stride cs (tail (2 ^ p) (a ++ drop (2 ^ p) word)))
           (after : List ℕ) (lw : length after ≡ length w) (j : Joined (2 ^ p) start cs w after) where
+        -- the first half, transformed
         A : Tree ℕ p
         A = transformTree p (coefsAt p (start + stride) stride cs) (treeOf 0 p (take (2 ^ p) word))
 
+        -- and the second
         B : Tree ℕ p
         B = transformTree p (coefsAt p (start + stride + 2 ^ p / 2) stride cs) (treeOf 0 p (drop (2 ^ p) word))
 
+        -- the first half is that tree's list
         a-leaves : a ≡ leaves p A
         unfolding blockTransform A
         a-leaves = ea
 
+        -- and the second
         b-leaves : b ≡ leaves p B
         unfolding blockTransform B
         b-leaves =
             eb ∙ ap (λ (x : List ℕ). leaves p (transformTree p (coefsAt p (start + stride + 2 ^ p / 2) stride cs) (treeOf 0 p x))) (lent-tail (2 ^ p) word a la half-le)
 
+        -- so the whole is the block, transformed
         transformed : after ≡ blockTransform (suc p) start stride cs word
         unfolding blockTransform transformTree coefsAt treeOf A B
         transformed =
@@ -186,22 +200,27 @@ pub record Sizes (half start : ℕ) (word : List ℕ) : Type 0 where
 
 -- the statements of the step, at L layers, L − 1 = q and halves of h places
 module _ (start stride : ℕ) (cs word : List ℕ) where
+  -- it has the sizes
   abbrev HasSizes : ℕ → ℕ → ℕ → Type 0
   HasSizes L q h = Block L h start stride cs word → Sizes h start word
 
+  -- what the first call is given
   abbrev First : ℕ → ℕ → ℕ → Type 0
   First L q h = Block L h start stride cs word → Block q (h / 2) (start + stride) stride cs (take h word)
 
+  -- what the second is given
   abbrev Second : ℕ → ℕ → ℕ → Type 0
   Second L q h =
       Block L h start stride cs word → (a : List ℕ) → length a ≡ length (take h word)
       → Block q (h / 2) (start + stride + h / 2) stride cs (tail h (a ++ drop h word))
 
+  -- what the kernels between are given
   abbrev Joins : ℕ → ℕ → ℕ → Type 0
   Joins L q h =
       Block L h start stride cs word → (a b : List ℕ) → length a ≡ length (take h word) → length b ≡ length (tail h (a ++ drop h word))
       → Halves h start cs (put h (a ++ drop h word) b)
 
+  -- what is left
   abbrev Transformed : ℕ → ℕ → ℕ → Type 0
   Transformed L q h =
       Block L h start stride cs word → (a b after : List ℕ) → length a ≡ length (take h word) → length b ≡ length (tail h (a ++ drop h word))

@@ -107,16 +107,23 @@ module _ (n : ℕ) where
   pub tree-word : (u : List ℕ) → IsWord n u → All n Symbol (treeOf 0 n u)
   tree-word u w = all-treeOf 0 Symbol n u (w .symbols)
 
+-- ---- frames
+
+-- the vector at a place of a frame
+pub frame-at : (m : ℕ) (frame : List ℕ) (p : Place m) → at (frameTree m frame) p ≡ vectorAt frame (number p)
+unfolding frameTree
+frame-at m frame p =
+    treeOf-at [] (tabulate (2 ^ m) (vectorAt frame)) p ∙ getD-tabulate [] (2 ^ m) (vectorAt frame) (number p) (number-lt p)
+
 -- ---- totals
 
 module _ (n : ℕ) (cs frame : List ℕ) where
   -- the total of a word
   total-tree : (x : List ℕ) → total n frame x ≡ treeTotal n (frameTree n frame) (treeOf 0 n x)
-  unfolding total treeTotal frameTree
+  unfolding total treeTotal
   total-tree x = sym (tree-sum n (map2 n llrAt (frameTree n frame) (treeOf 0 n x)) (λ j. getD (vectorAt frame j) (getD x j 0) 0) (λ p.
       map2-at llrAt p (frameTree n frame) (treeOf 0 n x)
-      ∙ ap₂ (λ (v : List ℕ) (s : ℕ). getD v s 0)
-      (treeOf-at [] (tabulate (2 ^ n) (vectorAt frame)) p ∙ getD-tabulate [] (2 ^ n) (vectorAt frame) (number p) (number-lt p)) (treeOf-at 0 x p)))
+      ∙ ap₂ (λ (v : List ℕ) (s : ℕ). getD v s 0) (frame-at n frame p) (treeOf-at 0 x p)))
 
   -- of the transform of a word
   pub sent-tree : (u : List ℕ) → length u ≡ 2 ^ n → total n frame (transform n cs u) ≡ sentTotal n (coefsAt n 0 (2 ^ n / 2) cs) (frameTree n frame) (treeOf 0 n u)

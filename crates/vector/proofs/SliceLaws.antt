@@ -54,7 +54,7 @@ vector-take n xs i l = go (decLe (64 * n) (length xs))
     go (no k) = ap (λ (ys : List ℕ). vectorAt ys i) (take-all (64 * n) xs (omega arith))
 
 -- and of what is left without them
-vector-drop : (n : ℕ) (xs : List ℕ) (i : ℕ) → vectorAt (drop (64 * n) xs) i ≡ vectorAt xs (n + i)
+pub vector-drop : (n : ℕ) (xs : List ℕ) (i : ℕ) → vectorAt (drop (64 * n) xs) i ≡ vectorAt xs (n + i)
 unfolding vectorAt
 vector-drop n xs i =
     let q : 64 * n + 64 * i ≡ 64 * (n + i) = omega arith in
