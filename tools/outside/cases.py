@@ -13,10 +13,11 @@ sys.dont_write_bytecode = True
 import chip_cases
 import decode_cases
 import encode_cases
+import link_cases
 
 
 def main():
-    for part in (encode_cases, chip_cases, decode_cases):
+    for part in (encode_cases, chip_cases, decode_cases, link_cases):
         for line in part.lines():
             # Written as bytes, so that the line feed is byte 10 everywhere.
             sys.stdout.buffer.write((line + "\n").encode("ascii"))

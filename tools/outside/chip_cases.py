@@ -16,6 +16,9 @@ CASES = 200
 # What the lent buffers hold before the call.
 UNTOUCHED = 4711
 
+# The first of the two damages to the base.
+BASE = 12
+
 
 def draw_base(generator):
     """A 64-bit base from four draws, the highest 16 bits first."""
@@ -25,11 +28,17 @@ def draw_base(generator):
     return base
 
 
-def damaged_base(base, damages):
-    """The base as given: for damage 12 equal to itself turned by 32 chips."""
-    if 12 in damages:
-        return base % 2 ** 32 * (2 ** 32 + 1)
-    if 13 in damages:
+def halves_alike(base):
+    """The base with its lower 32 chips twice: itself turned by 32 chips."""
+    return base % 2 ** 32 * (2 ** 32 + 1)
+
+
+def damaged_base(base, damages, alike):
+    """The base as given: for damage `alike` equal to itself turned by 32
+    chips, for the next 0."""
+    if alike in damages:
+        return halves_alike(base)
+    if alike + 1 in damages:
         return 0
     return base
 
@@ -70,7 +79,7 @@ def spread_case(generator):
         symbols[place] = 255
     length = lent_length(count, damages, 0)
     refusal, result = chips.spread(
-        damaged_base(base, damages), symbols, length)
+        damaged_base(base, damages, BASE), symbols, length)
     return result_line("s", refusal, result, length)
 
 
@@ -117,7 +126,7 @@ def demap_case(generator):
     samples = (samples + [0])[:lent_length(64 * count, damages, 0)]
     length = lent_length(64 * count, damages, 2)
     refusal, result = chips.weigh(
-        damaged_base(base, damages), samples, top, bottom, Qc, length)
+        damaged_base(base, damages, BASE), samples, top, bottom, Qc, length)
     buffer = [UNTOUCHED] * length if result is None else result
     part = chips.place_penalties(buffer, drawn % 7)
     return [

@@ -12,7 +12,13 @@ whole report.
 import decoding
 import scms
 
-from draws import Generator, code_sizes, damage_code, lent_length
+from draws import (
+    Generator,
+    code_sizes,
+    damage_code,
+    given_number,
+    lent_length,
+)
 
 TAKEN = 60
 ALONE = 64
@@ -113,14 +119,10 @@ def draw_damage(generator):
 
 def given_precisions(Qc, Qm, damages):
     """Qc and Qm as given."""
-    given_Qc = Qc
-    for damage, number in ((13, 0), (14, 6), (15, 257)):
-        if damage in damages:
-            given_Qc = number
-    for damage, number in ((16, Qc - 1), (17, 14), (18, 0)):
-        if damage in damages:
-            Qm = number
-    return given_Qc, Qm
+    return (
+        given_number(Qc, damages, 13, (0, 6, 257)),
+        given_number(Qm, damages, 16, (Qc - 1, 14, 0)),
+    )
 
 
 def raise_zeros(frame, place):
@@ -130,13 +132,16 @@ def raise_zeros(frame, place):
             frame[i] = 1
 
 
-def damage_contents(d, p, map, coefs, most, frame):
-    """Damage d to map, coefficients or frame, where p picks."""
-    size = len(map)
-    damage_code(d, CODE_BYTES, p, size, map, len(coefs), coefs)
+def damage_bytes(d, p, map, coefs):
+    """Damage d to map or coefficients, where p picks."""
+    damage_code(d, CODE_BYTES, p, len(map), map, len(coefs), coefs)
     if d == 24:
-        map[:] = [1] * size
-    elif d == 25:
+        map[:] = [1] * len(map)
+
+
+def damage_frame(d, p, size, most, frame):
+    """Damage d to a frame of `size` places, where p picks."""
+    if d == 25:
         frame[p % (64 * size)] = most + 1
     elif d == 26:
         frame[p % (64 * size)] = 65535
@@ -174,10 +179,12 @@ def run_case(generator, n, damages, whole):
     """Draw one call, with these damages at places that are drawn too; its
     lines."""
     map, coefs, Qc, Qm, frame = draw_call(generator, n)
-    for d in damages:
-        damage_contents(d, generator.draw(), map, coefs, 2 ** Qc - 1, frame)
-    Qc, Qm = given_precisions(Qc, Qm, damages)
     size = len(map)
+    for d in damages:
+        p = generator.draw()
+        damage_bytes(d, p, map, coefs)
+        damage_frame(d, p, size, 2 ** Qc - 1, frame)
+    Qc, Qm = given_precisions(Qc, Qm, damages)
     lengths = (
         lent_length(65 * size, damages, WORK_LENGTH),
         lent_length(size, damages, SYMBOLS_LENGTH),
@@ -195,6 +202,12 @@ def run_case(generator, n, damages, whole):
     )
 
 
+def taken_layers(i):
+    """The n of a call that is taken: each from 1 to 8 five times, then those
+    from 1 to 4 again."""
+    return i % 8 + 1 if i < 40 else i % 4 + 1
+
+
 def some_layers(c):
     """The n of a damaged call: mostly small, and at and past the limits."""
     return {0: 0, 1: 9, 2: 257, 3: 8}.get(c, c % 5 + 1)
@@ -204,9 +217,7 @@ def lines():
     """The lines of all cases."""
     generator = Generator(55)
     for i in range(TAKEN):
-        # Each n from 1 to 8 five times, then those from 1 to 4 again.
-        n = i % 8 + 1 if i < 40 else i % 4 + 1
-        yield from run_case(generator, n, [0, 0], True)
+        yield from run_case(generator, taken_layers(i), [0, 0], True)
     for i in range(ALONE):
         # An n past the limits where the damage does nothing.
         d = i % 32

@@ -22,6 +22,14 @@ def lent_length(needed, damages, short):
     return needed
 
 
+def given_number(x, damages, first, instead):
+    """A number as given: another one for each damage from `first` on."""
+    for offset, number in enumerate(instead):
+        if first + offset in damages:
+            x = number
+    return x
+
+
 def code_sizes(n):
     """How many places and kernels the inputs are made for: those of n layers,
     or of 2 layers for an n that is to be refused."""

@@ -73,7 +73,7 @@ module _ (base top bottom qc : ℕ) (samples : List ℤ) where
   length-frame = length-joined 64 llrsAt (length samples / 64) (λ i l. length-llrs base top bottom qc (vectorAt samples i))
 
   -- those from 64 × i on are symbol i's
-  frame-part : (i : ℕ) → i < length samples / 64 → vectorAt (frameOf base top bottom qc samples) i ≡ llrsAt i
+  pub frame-part : (i : ℕ) → i < length samples / 64 → vectorAt (frameOf base top bottom qc samples) i ≡ llrsAt i
   unfolding frameOf vectorAt
   frame-part i l = joined-part 64 llrsAt (length samples / 64) (λ j k. length-llrs base top bottom qc (vectorAt samples j)) i l
 

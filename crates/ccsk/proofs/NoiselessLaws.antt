@@ -12,17 +12,17 @@ use lib.IntN.{ℤ, pos, negℤ, natAbs}
 use lib.ListN.{length, getD}
 use lib.Pow.{pow-mono}
 use Rattle.refusal.specs.Tests.{Within}
-use Rattle.vector.specs.Vector.{vectorAt, least}
-use Rattle.vector.proofs.Laws.{length-tabulate, getD-tabulate, length-joined, joined-part, sum-ext, sum-scale, least-le, less-least-at}
-use Rattle.ccsk.specs.Chips.{symbolChip, differing}
+use Rattle.vector.specs.Vector.{tabulate, vectorAt, joined, least}
+use Rattle.vector.proofs.Laws.{length-tabulate, getD-tabulate, tabulate-ext, tabulate-map, length-joined, joined-part, joined-ext, joined-flat, sum-ext, sum-scale, least-le, less-least-at}
+use Rattle.ccsk.specs.Chips.{chip, symbolChip, turned, differing}
 use Rattle.ccsk.specs.Samples.{hardChip, magnitude, added, raw, rawLlrs, quantised, llrs}
+use Rattle.ccsk.specs.Spread.{numbersOf}
 use Rattle.ccsk.specs.Demap.{frameOf}
-use Rattle.ccsk.specs.Part.{placeLlrs}
-use Rattle.ccsk.specs.Noiseless.{sentSample, sentSymbol, sentSamples, sentLlr, Weighed, Premise, Apart, Clean}
-use Rattle.ccsk.proofs.ChipLaws.{symbol-chip-lt}
+use Rattle.ccsk.specs.Noiseless.{sentSample, sentSymbol, numberSamples, sentSamples, sentLlr, Weighed, Premise, Apart, Clean}
+use Rattle.ccsk.proofs.ChipLaws.{symbol-chip-lt, turned-chip}
 use Rattle.ccsk.proofs.LlrLaws.{llr-at}
 use Rattle.ccsk.proofs.DistanceLaws.{shift, by-shift, differs-not}
-use Rattle.ccsk.proofs.FrameLaws.{frame-place}
+use Rattle.ccsk.proofs.FrameLaws.{frame-part}
 
 -- a sample that is sent has its amplitude for its magnitude
 pub sent-magnitude : (a c : ℕ) → magnitude (sentSample a c) ≡ a
@@ -159,8 +159,26 @@ module _ (base a : ℕ) (symbols : List ℕ) where
   sent-part i l = joined-part 64 (λ j. sentSymbol base a (getD symbols j 0)) (length symbols) (λ j k. length-sent base a (getD symbols j 0)) i l
 
   -- so the 64 numbers of place i are weighed from what is sent for symbol i
-  pub sent-place : (top bottom qc i : ℕ) → i < length symbols
-      → placeLlrs (frameOf base top bottom qc (sentSamples base a symbols)) i ≡ llrs base top bottom qc (sentSymbol base a (getD symbols i 0))
-  sent-place top bottom qc i l =
-      frame-place base top bottom qc (sentSamples base a symbols) i (let e = length-sent-samples in omega arith)
+  pub sent-vector : (top bottom qc i : ℕ) → i < length symbols
+      → vectorAt (frameOf base top bottom qc (sentSamples base a symbols)) i ≡ llrs base top bottom qc (sentSymbol base a (getD symbols i 0))
+  sent-vector top bottom qc i l =
+      frame-part base top bottom qc (sentSamples base a symbols) i (let e = length-sent-samples in omega arith)
       ∙ ap (llrs base top bottom qc) (sent-part i l)
+
+module _ (a : ℕ) where
+  -- sample j is that of chip j mod 64 of number j / 64
+  pub samples-flat : (numbers : List ℕ) → numberSamples a numbers ≡ tabulate (64 * length numbers) (λ j. sentSample a (chip (getD numbers (j / 64) 0) (j % 64)))
+  unfolding numberSamples
+  samples-flat numbers = joined-flat (length numbers) (λ i k. sentSample a (chip (getD numbers i 0) k))
+
+  -- what is sent for the numbers of symbols is what is sent for the symbols
+  pub numbers-sent : (base : ℕ) (symbols : List ℕ) → numberSamples a (numbersOf base symbols) ≡ sentSamples base a symbols
+  unfolding numberSamples sentSamples sentSymbol numbersOf
+  numbers-sent base symbols =
+      ap (numberSamples a) (sym (tabulate-map 0 (turned base) symbols))
+      ∙ ap (λ (n : ℕ). joined n (λ i. tabulate 64 (λ k. sentSample a (chip (getD (tabulate (length symbols) number) i 0) k)))) (length-tabulate (length symbols) number)
+      ∙ joined-ext (length symbols) _ _ (λ i l. tabulate-ext 64 _ _ (λ k s.
+      ap (sentSample a) (ap (λ (x : ℕ). chip x k) (getD-tabulate 0 (length symbols) number i l) ∙ turned-chip base (getD symbols i 0) k s)))
+    where
+      number : ℕ → ℕ
+      number i = turned base (getD symbols i 0)

@@ -8,7 +8,7 @@ use lib.IntN.{ℤ, pos, negℤ}
 use lib.ListN.{length, getD}
 use Rattle.refusal.specs.Tests.{Within}
 use Rattle.vector.specs.Vector.{tabulate, joined, OnlyZero}
-use Rattle.ccsk.specs.Chips.{symbolChip, differing}
+use Rattle.ccsk.specs.Chips.{chip, symbolChip, differing}
 use Rattle.ccsk.specs.Samples.{llrs}
 
 -- the sample of a chip sent with this amplitude: +A at a chip 0, −A at a chip 1
@@ -18,6 +18,10 @@ sentSample amplitude chip = cond (eqb chip 0) (pos amplitude) (negℤ (pos ampli
 -- the 64 samples of the symbol s
 unfoldable pub sentSymbol : (base amplitude : ℕ) → ℕ → List ℤ
 sentSymbol base amplitude s = tabulate 64 (λ k. sentSample amplitude (symbolChip base s k))
+
+-- the samples of a list of numbers that symbols are sent as, 64 to a number: for one amplitude A, +A at each chip 0 and −A at each chip 1
+unfoldable pub numberSamples : (amplitude : ℕ) → List ℕ → List ℤ
+numberSamples amplitude numbers = joined (length numbers) (λ i. tabulate 64 (λ k. sentSample amplitude (chip (getD numbers i 0) k)))
 
 -- the samples of a list of symbols
 unfoldable pub sentSamples : (base amplitude : ℕ) → List ℕ → List ℤ
@@ -38,8 +42,8 @@ pub record Weighed (base amplitude top bottom qc s : ℕ) : Type 0 where
 abbrev pub Premise : (base amplitude top bottom qc : ℕ) → ℕ → Type 0
 Premise base amplitude top bottom qc s = (v : ℕ) → v < 64 → (v ≡ s → ⊥) → 1 ≤ sentLlr base amplitude top bottom qc s v
 
--- the same as a condition on base, amplitude and gain alone: the gain times the amplitude times the number of chips in which a shift d
--- differs from shift 0 is at least 1
+-- the same as a condition on base, amplitude and gain alone: for each shift d from 1 to 63 the gain times the amplitude times the number of chips in
+-- which it differs from shift 0 is at least 1
 abbrev pub Apart : (base amplitude top bottom : ℕ) → Type 0
 Apart base amplitude top bottom = (d : ℕ) → Within 1 63 d → bottom ≤ amplitude * differing base 0 d * top
 

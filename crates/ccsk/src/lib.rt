@@ -5,6 +5,7 @@ mod part;
 mod samples;
 mod spreader;
 
+pub use chips::turned;
 pub use demapper::demap;
 pub use part::place_llrs;
 pub use spreader::spread;

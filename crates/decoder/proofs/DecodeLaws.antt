@@ -24,11 +24,12 @@ use Rattle.scms.proofs.LeastTotals.{least-totals}
 use Rattle.scms.proofs.Decisions.{decided}
 use Rattle.scms.proofs.BestWord.{best-word}
 use Rattle.decoder.specs.Parts.{BlockVector, BlockGiven, vectorsFrom, BlockDecoded}
-use Rattle.decoder.specs.Refusals.{decodeRefusal, Decodable}
+use Rattle.decoder_refusal.specs.Refusals.{decodeRefusal, Decodable}
 use Rattle.decoder.specs.declared.decoder.Answer as enum
 use Rattle.decoder.specs.declared.decoder.Answer.the-variants.{Count, Refused}
 use Rattle.decoder.specs.Decode.{returned, decodeAnswer, decodeSymbols, decodeReport, decodeWork, Decoded}
-use Rattle.decoder.proofs.RefusalLaws.{taken, each-zero, each-cap, each-31}
+use Rattle.decoder_refusal.proofs.RefusalLaws.{taken}
+use Rattle.decoder.proofs.FrameLaws.{each-zero, each-cap, each-31}
 use Rattle.decoder.proofs.HalvesLaws.{vectors-by}
 
 module _ {n : ℕ} {map cs : List ℕ} {qc qm : ℕ} {frame work symbols report : List ℕ} where

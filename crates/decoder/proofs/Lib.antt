@@ -2,5 +2,5 @@ pub mod Laws
 pub mod LayerLaws
 pub mod HalvesLaws
 pub mod BlockLaws
-pub mod RefusalLaws
+pub mod FrameLaws
 pub mod DecodeLaws

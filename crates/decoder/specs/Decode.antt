@@ -11,7 +11,7 @@ use Rattle.scms.specs.Totals.{FrozenFirst, Unclipped}
 use Rattle.scms.specs.Claims.{CountZero, LeastTotals, Decided, BestWord}
 use Rattle.decoder.specs.declared.decoder.Answer.{Answer}
 use Rattle.decoder.specs.declared.decoder.Answer.the-variants.{Count, Refused}
-use Rattle.decoder.specs.Refusals.{decodeRefusal}
+use Rattle.decoder_refusal.specs.Refusals.{decodeRefusal}
 
 -- an answer in document 01's terms: the number returned, and the values beside the buffers. The number is 0, which no row of the table has,
 -- where the frame was decoded
@@ -19,8 +19,8 @@ pub record Returned : Type 0 where
   pub number : ℕ
   pub values : List ℕ
 
--- the number and the values for each case of the answer: a decoded frame has the count of clipped entries, a refusal its number in the table
--- 'Refused' and no value
+-- the number and the values for each case of the answer: a decoded frame has the count of clipped entries, a refusal its number (for `decode` one of the
+-- table 'Refused') and no value
 unfoldable pub returned : Answer → Returned
 returned (Count count) = record { number = 0; values = count ∷ [] }
 returned (Refused number) = record { number = number; values = [] }

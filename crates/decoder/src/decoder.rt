@@ -1,6 +1,5 @@
 // The decoder: a frame of penalties to the symbols of its word.
 use crate::block::decode_block;
-use crate::refusals::decode_refusal;
 ghost use mathlib.Core.Path.{_≡_};
 ghost use lib.ListN.{length, replicate};
 ghost use Rattle.decoder.specs.Decode.{Decoded};
@@ -9,7 +8,7 @@ ghost use Rattle.decoder.specs.Decode.{Decoded};
 pub enum Answer {
     // The frame was decoded: the count of clipped entries over all variable nodes.
     Count(u32),
-    // It was refused: the number in document 01's table.
+    // It was refused: the number of the refusal, for `decode` one of document 01's table.
     Refused(u8),
 }
 
@@ -42,7 +41,17 @@ pub fn decode(
     ensures { λ r. ⌜ Decoded n (now (map .entry)) (now (coefs .entry)) qc qm (now (frame .entry)) (now (work .entry)) (now (symbols .entry))
         (now (report .entry)) (now (work .exit)) (now (symbols .exit)) (now (report .exit)) r ⌝ }
 {
-    let refused = decode_refusal(n, map, coefs, qc, qm, frame, work, symbols, report);
+    let refused = decoder_refusal::decode_refusal(
+        n,
+        map,
+        coefs,
+        qc,
+        qm,
+        frame,
+        work,
+        symbols,
+        report,
+    );
     if refused != 0 {
         return Answer::Refused(refused);
     }

@@ -1,6 +1,7 @@
 -- The table of worked rows holds, by computing every row from the definitions.
-use mathlib.Core.Path.{refl}
-use Prim.Native.Nat.{_≤_}
+use mathlib.Core.Path.{_≡_, refl}
+use mathlib.Core.List.{List}
+use Prim.Native.Nat.{ℕ}
 use native.Mathlib.Omega.{arith}
 use lib.Dec.{lit<}
 use Rattle.refusal.specs.Table.{refusalOf}
@@ -9,22 +10,37 @@ use Rattle.vector.specs.Vector.{tabulate, vectorAt, joined, sumTo, leastTo, lea
 use Rattle.gf64.specs.Field.{_⊕_, _⊙_, timesA, productBits, lowSix}
 use Rattle.polar.specs.Code.{kindOf}
 use Rattle.polar.specs.Transform.{theta, phi, coefficient, atKernel, atKernels, atLayer, layer, layers, transform}
-use Rattle.ccsk.specs.Chips.{chip, symbolChip, turned}
-use Rattle.ccsk.specs.Spread.{spreadRefusal}
+use Rattle.polar.specs.Encode.{symbolAt, restAfter, wordBefore, codewordOf}
+use Rattle.polar.specs.Message.{withPlace, messageOf}
+use Rattle.ccsk.specs.Chips.{chip, symbolChip, turned, differing}
+use Rattle.ccsk.specs.Spread.{numbersOf, spreadRefusal}
 use Rattle.ccsk.specs.Samples.{hardChip, magnitude, added, raw, rawLlrs, quantised, quantisedLlrs, llrs}
 use Rattle.ccsk.specs.Demap.{frameOf, demapRefusal}
-use Rattle.ccsk.specs.Noiseless.{sentSample, sentSymbol, sentLlr, Premise}
+use Rattle.ccsk.specs.Noiseless.{sentSample, sentSymbol, numberSamples}
 use Rattle.scms.specs.Nodes.{scaled, checkNode, sums, subtractLeast, clipped, exceeding, lowered, variableNode, clippedEntries}
 use Rattle.scms.specs.Decision.{smallestTo, smallest, decision}
 use Rattle.scms.specs.Decoder.{capOf, nodes, thetaSymbol, vectors, thetaVector, phiVector, loweredAt, clippedAt, clipCount, heldAt, decidedTo, held, symbols, report, count}
+use Rattle.link.specs.Noiseless.{messageSamples, messageFrame, ChainInput, NoiselessPremise}
 use Rattle.link.specs.Rows.{Worked}
+use Rattle.link.proofs.Noiseless.{corollary}
 
--- with gain 1/40 the penalty of symbol 1 is 0, where symbol 0 is sent
-fails : Premise 1 10 1 40 3 0 → ⊥
-unfolding tabulate sumTo leastTo least lessLeast chip symbolChip hardChip magnitude added raw rawLlrs quantised quantisedLlrs llrs sentSample sentSymbol sentLlr
-fails p = let l : _≤_ 1 0 = p 1 (lit< tt) (λ e. absurd (omega arith)) in omega arith
+-- shift 1 of base 1 differs from shift 0 in two chips
+two-chips : differing 1 0 1 ≡ 2
+unfolding chip symbolChip differing sumTo
+two-chips = refl
+
+-- so with amplitude 10 a gain of 1/40 is too small
+fails : (n : ℕ) (frozen cs message : List ℕ) (qm : ℕ) → ChainInput n frozen cs message 1 10 1 40 3 qm → NoiselessPremise n frozen cs message 1 10 1 40 3 → ⊥
+fails n frozen cs message qm h p =
+    let far = corollary n frozen cs message 1 10 1 40 3 qm h .holds-apart p 1 (record { least = omega arith; most = omega arith }) in
+    let e = two-chips in
+    absurd (omega arith)
+
+-- and one of 1/20 is enough, as for every base
+holds : (n : ℕ) (frozen cs message : List ℕ) (qm : ℕ) → ChainInput n frozen cs message 1 10 1 20 3 qm → NoiselessPremise n frozen cs message 1 10 1 20 3
+holds n frozen cs message qm h = corollary n frozen cs message 1 10 1 20 3 qm h .any-base (lit< tt) (omega arith)
 
 -- every row holds
 pub worked : Worked
-unfolding _⊕_ _⊙_ timesA productBits lowSix theta phi coefficient atKernel atKernels atLayer layer layers transform refusalOf outside anyOutside unequal tabulate joined sumTo leastTo least lessLeast chip symbolChip turned spreadRefusal hardChip magnitude added raw rawLlrs quantised quantisedLlrs llrs vectorAt frameOf demapRefusal sentSample sentSymbol kindOf scaled checkNode sums subtractLeast clipped exceeding lowered variableNode clippedEntries smallestTo smallest decision capOf nodes thetaSymbol vectors thetaVector phiVector loweredAt clippedAt clipCount heldAt decidedTo held symbols report count
-worked = record { rows-hold = refl; samples-sent = refl; premise-fails = fails }
+unfolding _⊕_ _⊙_ timesA productBits lowSix theta phi coefficient atKernel atKernels atLayer layer layers transform refusalOf outside anyOutside unequal tabulate joined sumTo leastTo least lessLeast chip symbolChip turned spreadRefusal hardChip magnitude added raw rawLlrs quantised quantisedLlrs llrs vectorAt frameOf demapRefusal sentSample sentSymbol kindOf scaled checkNode sums subtractLeast clipped exceeding lowered variableNode clippedEntries smallestTo smallest decision capOf nodes thetaSymbol vectors thetaVector phiVector loweredAt clippedAt clipCount heldAt decidedTo held symbols report count symbolAt restAfter wordBefore codewordOf numbersOf withPlace messageOf numberSamples messageSamples messageFrame
+worked = record { rows-hold = refl; samples-sent = refl; premise-fails = fails; premise-holds = holds }

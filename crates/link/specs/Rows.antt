@@ -7,11 +7,14 @@ use lib.ListN.{getD, set, replicate}
 use Rattle.vector.specs.Vector.{tabulate}
 use Rattle.gf64.specs.Field.{_⊙_}
 use Rattle.polar.specs.Transform.{transform}
+use Rattle.polar.specs.Encode.{codewordOf}
+use Rattle.polar.specs.Message.{messageOf}
 use Rattle.ccsk.specs.Chips.{symbolChip, turned}
 use Rattle.ccsk.specs.Spread.{spreadRefusal}
 use Rattle.ccsk.specs.Demap.{frameOf, demapRefusal}
-use Rattle.ccsk.specs.Noiseless.{sentSymbol, Premise}
+use Rattle.ccsk.specs.Noiseless.{sentSymbol}
 use Rattle.scms.specs.Decoder.{capOf, held, symbols, report, count}
+use Rattle.link.specs.Noiseless.{messageFrame, ChainInput, NoiselessPremise}
 
 -- samples +10 except chip 0 at −10
 abbrev pub workedSamples : List ℤ
@@ -87,13 +90,25 @@ sheetRows =
     ∷ record { given = count 1 (capOf 2) (2 ∷ []) (1 ∷ 0 ∷ []) frame ∷ []; expected = 63 ∷ [] }
     ∷ []
 
+-- from end to end: the frame of that sheet is weighed from what is sent for the message 33 with base 1, amplitude 10 and gain 3/20, at Qc = 5 and at Qc = 2,
+-- and the message is read from the symbols decided, 0 and 33
+abbrev pub linkRows : List Row
+linkRows =
+    record { given = codewordOf 1 (1 ∷ 0 ∷ []) (2 ∷ []) (33 ∷ []); expected = 33 ∷ 1 ∷ [] }
+    ∷ record { given = messageFrame 1 (1 ∷ 0 ∷ []) (2 ∷ []) (33 ∷ []) 1 10 3 20 5; expected = zeroAt 33 3 ++ zeroAt 1 3 }
+    ∷ record { given = messageFrame 1 (1 ∷ 0 ∷ []) (2 ∷ []) (33 ∷ []) 1 10 3 20 2; expected = zeroAt 33 3 ++ zeroAt 1 3 }
+    ∷ record { given = messageOf (1 ∷ 0 ∷ []) (0 ∷ 33 ∷ []); expected = 33 ∷ [] }
+    ∷ []
+
 -- all rows
 abbrev pub rows : List Row
-rows = productRows ++ (transformRows ++ (baseRows ++ (gainRows ++ (decoderRows (capOf 1) ++ (decoderRows (capOf 13) ++ sheetRows)))))
+rows =
+    productRows ++ (transformRows ++ (baseRows ++ (gainRows ++ (decoderRows (capOf 1) ++ (decoderRows (capOf 13) ++ (sheetRows ++ linkRows))))))
 
--- the claim over the whole table: every row's two sides are the same; and with gain 1/40, where those samples are what is sent for
--- symbol 0 with amplitude 10, the noiseless statement's premise fails
+-- the claim over the whole table: every row's two sides are the same; those samples are what is sent for symbol 0 with amplitude 10; and with base 1,
+-- amplitude 10 and Qc 3 the noiseless statement's premise fails for gain 1/40 and holds for gain 1/20, whatever code and message are sent
 pub record Worked : Type 0 where
   pub rows-hold : map (λ (r : Row). r .given) rows ≡ map (λ (r : Row). r .expected) rows
   pub samples-sent : sentSymbol 1 10 0 ≡ workedSamples
-  pub premise-fails : Premise 1 10 1 40 3 0 → ⊥
+  pub premise-fails : (n : ℕ) (frozen cs message : List ℕ) (qm : ℕ) → ChainInput n frozen cs message 1 10 1 40 3 qm → NoiselessPremise n frozen cs message 1 10 1 40 3 → ⊥
+  pub premise-holds : (n : ℕ) (frozen cs message : List ℕ) (qm : ℕ) → ChainInput n frozen cs message 1 10 1 20 3 qm → NoiselessPremise n frozen cs message 1 10 1 20 3

@@ -20,12 +20,18 @@ pub(crate) fn after_base(state: u64) -> u64 {
     step(step(step(step(state))))
 }
 
-// The base as given: equal to itself turned by 32 chips for the damage 12, 0 for the damage 13.
-pub(crate) fn damaged_base(base: u64, d: usize, e: usize) -> u64 {
-    if d == 12 || e == 12 {
-        return base % 4294967296 * 4294967297;
+// The base with its lower 32 chips twice: it is equal to itself turned by 32 chips.
+pub(crate) fn halves_alike(base: u64) -> u64 {
+    base % 4294967296 * 4294967297
+}
+
+// The base as given: equal to itself turned by 32 chips for the damage `alike`, 0 for the damage after it.
+pub(crate) fn damaged_base(base: u64, d: usize, e: usize, alike: usize) -> u64 {
+    if d == alike || e == alike {
+        return halves_alike(base);
     }
-    if d == 13 || e == 13 {
+    let zero = alike % 64 + 1;
+    if d == zero || e == zero {
         return 0;
     }
     base

@@ -1,6 +1,6 @@
 // The damages to a call of the decoder, by number: 1 to 12 a lent length one too short or one too long (map, coefficients, frame, work buffer,
 // symbols, report), 13 to 15 Qc, 16 to 18 Qm, 19 to 23 a byte of the map or of the coefficients, 24 all places frozen, 25 and 26 a penalty too
-// large, 27 to 29 a vector with no zero. Other numbers do nothing.
+// large, 27 to 29 a vector with no zero. Other numbers do nothing. Those up to 24 are damages to a call of the whole chain too.
 use crate::code::damage_code;
 use crate::code::kernels;
 use crate::code::places;
@@ -15,19 +15,40 @@ pub(crate) fn drawn_damage(state: u64) -> usize {
 }
 
 // A number as given: `instead` for the damage `which`, else as it is.
-fn given(x: u32, d: usize, e: usize, which: usize, instead: u32) -> u32 {
+pub(crate) fn given(x: u32, d: usize, e: usize, which: usize, instead: u32) -> u32 {
     if d == which || e == which { instead } else { x }
+}
+
+// A number as given: for the damage `first` and the two after it the three numbers instead, else as it is.
+pub(crate) fn given_three(
+    x: u32,
+    d: usize,
+    e: usize,
+    first: usize,
+    low: u32,
+    high: u32,
+    higher: u32,
+) -> u32 {
+    let second = first % 64 + 1;
+    let third = second + 1;
+    given(
+        given(given(x, d, e, first, low), d, e, second, high),
+        d,
+        e,
+        third,
+        higher,
+    )
 }
 
 // Qc as given.
 pub(crate) fn given_qc(qc: u32, d: usize, e: usize) -> u32 {
-    given(given(given(qc, d, e, 13, 0), d, e, 14, 6), d, e, 15, 257)
+    given_three(qc, d, e, 13, 0, 6, 257)
 }
 
 // Qm as given, from Qc and Qm before damage.
 pub(crate) fn given_qm(qc: u32, qm: u32, d: usize, e: usize) -> u32 {
     let below = (qc % 8 + 7) % 8;
-    given(given(given(qm, d, e, 16, below), d, e, 17, 14), d, e, 18, 0)
+    given_three(qm, d, e, 16, below, 14, 0)
 }
 
 // Damage d to the map and the coefficients of a code with n layers, at a place that the state picks.

@@ -5,7 +5,9 @@ use crate::code::kernels;
 use crate::code::places;
 use crate::draws::front;
 use crate::draws::front_numbers;
+use crate::draws::lent;
 use crate::draws::lent_length;
+use crate::draws::lent_numbers;
 use crate::print::print_bytes;
 use crate::print::print_number;
 use crate::print::print_numbers;
@@ -26,7 +28,7 @@ pub(crate) struct Call {
 }
 
 // 1 where two numbers are the same, else 0.
-fn same(x: u64, y: u64) -> u64
+pub(crate) fn same(x: u64, y: u64) -> u64
     ensures { λ r. ⌜ r ≤ 1 ⌝ }
 {
     if x == y { 1 } else { 0 }
@@ -40,7 +42,7 @@ fn same_byte(x: u8, y: u8) -> u64
 }
 
 // How many numbers of a buffer are x.
-fn count_numbers(s: &[u16], x: u64) -> u64
+pub(crate) fn count_numbers(s: &[u16], x: u64) -> u64
     ensures { λ r. ⌜ r ≤ length (now (s .entry)) ⌝ }
 {
     let mut count: u64 = 0;
@@ -53,7 +55,7 @@ fn count_numbers(s: &[u16], x: u64) -> u64
 }
 
 // How many bytes of a buffer are x.
-fn count_bytes(s: &[u8], x: u8) -> u64
+pub(crate) fn count_bytes(s: &[u8], x: u8) -> u64
     ensures { λ r. ⌜ r ≤ length (now (s .entry)) ⌝ }
 {
     let mut count: u64 = 0;
@@ -132,18 +134,13 @@ pub(crate) fn decode_lent(
     let lent_map = front(map, lent_length(size, d, e, 1));
     let lent_coefs = front(coefs, lent_length(kernels(call.n), d, e, 3));
     let lent_frame = front_numbers(frame, lent_length(size * 64, d, e, 5));
-    let w = lent_length(size * 65, d, e, 7);
-    let s = lent_length(size, d, e, 9);
-    let r = lent_length(size * 64, d, e, 11);
-    if w <= work.len() && s <= symbols.len() && r <= report.len() {
-        decode_lines(
-            call,
-            lent_map,
-            lent_coefs,
-            lent_frame,
-            &mut work[..w],
-            &mut symbols[..s],
-            &mut report[..r],
-        );
-    }
+    decode_lines(
+        call,
+        lent_map,
+        lent_coefs,
+        lent_frame,
+        lent_numbers(work, lent_length(size * 65, d, e, 7)),
+        lent(symbols, lent_length(size, d, e, 9)),
+        lent_numbers(report, lent_length(size * 64, d, e, 11)),
+    );
 }

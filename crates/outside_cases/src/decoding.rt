@@ -67,8 +67,8 @@ fn run_case(state: u64, n: usize, d: usize, e: usize, whole: bool) -> u64 {
     s8
 }
 
-// The number of layers of a frame that is taken, by the case: each from 1 to 8 five times, then those from 1 to 4 again.
-fn layers_of(i: usize) -> usize {
+// The number of layers of a call that is taken, by the case: each from 1 to 8 five times, then those from 1 to 4 again.
+pub(crate) fn layers_of(i: usize) -> usize {
     if i < 40 { i % 8 + 1 } else { i % 4 + 1 }
 }
 

@@ -66,6 +66,21 @@ pub(crate) fn front_numbers(s: &[u16], n: usize) -> &[u16] {
     if n <= s.len() { &s[..n] } else { s }
 }
 
+// The first n bytes of s to be written, or all where it has fewer.
+pub(crate) fn lent(s: &mut [u8], n: usize) -> &mut [u8] {
+    if n <= s.len() { &mut s[..n] } else { s }
+}
+
+// The first n numbers of s to be written, or all where it has fewer.
+pub(crate) fn lent_numbers(s: &mut [u16], n: usize) -> &mut [u16] {
+    if n <= s.len() { &mut s[..n] } else { s }
+}
+
+// The first n samples of s to be written, or all where it has fewer.
+pub(crate) fn lent_samples(s: &mut [i8], n: usize) -> &mut [i8] {
+    if n <= s.len() { &mut s[..n] } else { s }
+}
+
 // The length of a slice as lent, where needed is the right one: one less for the damage short, one more for the damage after it.
 pub(crate) fn lent_length(needed: usize, d: usize, e: usize, short: usize) -> usize {
     if d == short || e == short {
@@ -74,7 +89,7 @@ pub(crate) fn lent_length(needed: usize, d: usize, e: usize, short: usize) -> us
         }
         return needed - 1;
     }
-    let long = short % 32 + 1;
+    let long = short % 64 + 1;
     if d == long || e == long {
         return needed % 65536 + 1;
     }

@@ -6,6 +6,7 @@ use crate::draws::draw_bytes;
 use crate::draws::drawn;
 use crate::draws::fill;
 use crate::draws::front;
+use crate::draws::lent;
 use crate::draws::lent_length;
 use crate::draws::put;
 use crate::draws::step;
@@ -62,10 +63,8 @@ fn encode_lent(
         message,
         lent_length(polar::message_places(lent_map), d, e, 4),
     );
-    let c = lent_length(places(n), d, e, 6);
-    if c <= codeword.len() {
-        encode_line(n, lent_map, lent_coefs, lent_message, &mut codeword[..c]);
-    }
+    let lent_codeword = lent(codeword, lent_length(places(n), d, e, 6));
+    encode_line(n, lent_map, lent_coefs, lent_message, lent_codeword);
 }
 
 // Draws one case, encodes it, prints a line, and returns the state after that.

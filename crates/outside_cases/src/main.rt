@@ -8,7 +8,10 @@ mod decoding;
 mod draws;
 mod encoding;
 mod frames;
+mod linked;
+mod linking;
 mod print;
+mod sending;
 mod spreading;
 mod weighing;
 
@@ -16,4 +19,5 @@ fn main() {
     encoding::run_cases();
     chips::run_cases();
     decoding::run_cases();
+    linking::run_cases();
 }

@@ -45,7 +45,7 @@ fn spread_lent(base: u64, symbols: &[u8], count: usize, numbers: &mut [u64], d: 
     let n = lent_length(count, d, e, 0);
     if n <= numbers.len() {
         spread_line(
-            damaged_base(base, d, e),
+            damaged_base(base, d, e, 12),
             front(symbols, count),
             &mut numbers[..n],
         );

@@ -124,7 +124,7 @@ fn demap_lent(state: u64, base: u64, samples: &[i8], count: usize, llrs: &mut [u
     if m <= samples.len() {
         if n <= llrs.len() {
             demap_line(
-                damaged_base(base, d, e),
+                damaged_base(base, d, e, 12),
                 &samples[..m],
                 top,
                 bottom,

@@ -4,23 +4,24 @@ use mathlib.Core.List.{List}
 use Prim.Native.Nat.{ℕ, zero, suc, _+_, _*_, _/_, _^_, _≤_, _<_}
 use native.Mathlib.Nat.{mul-le-mul}
 use native.Mathlib.Omega.{arith}
-use borrow.Author.Tests.{ne-eqb, eqb-false}
 use lib.Dec.{lit<}
 use lib.ListN.{length, getD}
 use lib.Pow.{pow-mono}
 use Rattle.refusal.specs.Table.{Numbered}
 use Rattle.refusal.proofs.Laws.{taken-none, none-taken}
-use Rattle.refusal.proofs.Within.{inside-within, within-inside, none-within, within-none, false-equal, equal-false}
+use Rattle.refusal.proofs.Within.{none-within, within-none, false-equal, equal-false}
 use Rattle.polar.specs.Code.{messagePlaces, IsCode, IsWord}
 use Rattle.polar.specs.Encode.{wordBefore, codewordOf, encodeTable, encodeRefusal, Encodable}
 use Rattle.polar.specs.Halves.{blockTransform}
 use Rattle.polar.specs.Parts.{Room, Block, Placing}
 use Rattle.polar.proofs.Numbers.{half-pow, getD-each}
+use Rattle.polar.proofs.CodeLaws.{rows-code, code-sizes, code-bytes}
 use Rattle.polar.proofs.MessageLaws.{length-word, word-symbols}
 use Rattle.polar.proofs.ByHalves.{by-halves}
 use Rattle.polar.proofs.OneToOne.{transform-word}
 
 module _ (n : ℕ) (map cs symbols buffer : List ℕ) where
+  -- no row has the number 0
   numbered : Numbered (encodeTable n map cs symbols buffer)
   numbered = (lit< tt, (lit< tt, (lit< tt, (lit< tt, (lit< tt, (lit< tt, (lit< tt, (lit< tt, (lit< tt, tt)))))))))
 
@@ -28,51 +29,27 @@ module _ (n : ℕ) (map cs symbols buffer : List ℕ) where
   pub taken : encodeRefusal n map cs symbols buffer ≡ 0 → Encodable n map cs symbols buffer
   unfolding encodeRefusal
   taken e =
-      let f = taken-none (encodeTable n map cs symbols buffer) numbered e in
-      let g = f .1 .1 .1 .1 in
+      let sizes = taken-none (encodeTable n map cs symbols buffer) numbered e in
+      let rooms = sizes .1 .1 .1 in
+      let bytes = rooms .1 .1 in
       record {
-        code = record {
-          layers = inside-within 1 8 n (f .0);
-          map-long = false-equal (length map) (2 ^ n) (f .1 .0);
-          coefs-long = false-equal (length cs) (n * (2 ^ n / 2)) (f .1 .1 .0);
-          map-bytes = none-within 0 1 0 map (g .1 .0);
-          some-message = eqb-false (messagePlaces map) 0 (g .1 .1 .0);
-          coefs = none-within 1 63 1 cs (g .1 .1 .1 .0);
-        };
-        message-long = false-equal (length symbols) (messagePlaces map) (f .1 .1 .1 .0);
-        message-symbols = none-within 0 63 0 symbols (g .1 .1 .1 .1 .0);
-        buffer-long = false-equal (length buffer) (2 ^ n) (g .0);
+        code = rows-code n map cs (sizes .0, (sizes .1 .0, (sizes .1 .1 .0, tt))) (bytes .0, (bytes .1 .0, (bytes .1 .1 .0, tt)));
+        message-long = false-equal (length symbols) (messagePlaces map) (rooms .0);
+        message-symbols = none-within 0 63 0 symbols (bytes .1 .1 .1 .0);
+        buffer-long = false-equal (length buffer) (2 ^ n) (rooms .1 .0);
       }
 
   -- and the other way round
   pub takes : Encodable n map cs symbols buffer → encodeRefusal n map cs symbols buffer ≡ 0
   unfolding encodeRefusal
   takes t =
-      none-taken (encodeTable n map cs symbols buffer) (
-        within-inside 1 8 n (t .code .layers),
-        (
-          equal-false (length map) (2 ^ n) (t .code .map-long),
-          (
-            equal-false (length cs) (n * (2 ^ n / 2)) (t .code .coefs-long),
-            (
-              equal-false (length symbols) (messagePlaces map) (t .message-long),
-              (
-                equal-false (length buffer) (2 ^ n) (t .buffer-long),
-                (
-                  within-none 0 1 0 map (t .code .map-bytes),
-                  (
-                    ne-eqb (messagePlaces map) 0 (t .code .some-message),
-                    (
-                      within-none 1 63 1 cs (t .code .coefs),
-                      (within-none 0 63 0 symbols (t .message-symbols), tt),
-                    ),
-                  ),
-                ),
-              ),
-            ),
-          ),
-        ),
-      )
+      let sizes = code-sizes n map cs (t .code) in
+      let bytes = code-bytes n map cs (t .code) in
+      let message = equal-false (length symbols) (messagePlaces map) (t .message-long) in
+      let room = equal-false (length buffer) (2 ^ n) (t .buffer-long) in
+      let small = within-none 0 63 0 symbols (t .message-symbols) in
+      none-taken (encodeTable n map cs symbols buffer)
+      (sizes .0, (sizes .1 .0, (sizes .1 .1 .0, (message, (room, (bytes .0, (bytes .1 .0, (bytes .1 .1 .0, (small, tt)))))))))
 
 -- the coefficients of a block of 2^m places are among `all`, if those of its last layer are
 room-at : (m start stride all : ℕ) → start + m * stride + 2 ^ m / 2 ≤ all + stride → Room m start stride all

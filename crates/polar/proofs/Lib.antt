@@ -8,4 +8,5 @@ pub mod ByHalves
 pub mod OneToOne
 pub mod JoinLaws
 pub mod BlockLaws
+pub mod CodeLaws
 pub mod EncodeLaws

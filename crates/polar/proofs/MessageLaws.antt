@@ -12,6 +12,7 @@ use lib.ListN.{length, getD, take, drop, set, length-set}
 use lib.Seq.{drop-cons, drop-drop, getD-drop, take-suc-set, append-snoc}
 use Rattle.polar.specs.Code.{Kind, message, frozen, kindOf, messageCount, messagePlaces}
 use Rattle.polar.specs.Encode.{symbolAt, restAfter, wordBefore}
+use Rattle.polar.specs.Message.{withPlace, messageOf}
 
 -- the byte 0 is a message place
 pub kind-message : (byte : ℕ) → byte ≡ 0 → kindOf byte ≡ message
@@ -50,6 +51,30 @@ unfolding wordBefore
 word-symbols [] symbols h i = lit< tt
 word-symbols (b ∷ map) symbols h zero = kind-symbol b symbols h
 word-symbols (b ∷ map) symbols h (suc i) = word-symbols map (restAfter (kindOf b) symbols) (rest-symbols (kindOf b) symbols h) i
+
+-- a frozen place of the word holds the symbol of its kind
+pub word-frozen : (map symbols : List ℕ) (i s : ℕ) → i < length map → kindOf (getD map i 0) ≡ frozen s → getD (wordBefore map symbols) i 0 ≡ s
+unfolding wordBefore symbolAt
+word-frozen [] symbols i s l e = absurd (omega arith)
+word-frozen (b ∷ map) symbols zero s l e = holds (kindOf b) e
+  where
+    holds : (k : Kind) → k ≡ frozen s → symbolAt k symbols ≡ s
+    holds k q = ap (λ (x : Kind). symbolAt x symbols) q
+word-frozen (b ∷ map) symbols (suc i) s l e = word-frozen map (restAfter (kindOf b) symbols) i s (omega arith) e
+
+-- a message is read back from its word
+pub message-back : (map symbols : List ℕ) → length symbols ≡ messagePlaces map → messageOf map (wordBefore map symbols) ≡ symbols
+unfolding messageOf wordBefore messagePlaces withPlace symbolAt restAfter messageCount
+message-back [] [] e = refl
+message-back [] (x ∷ symbols) e = absurd (omega arith)
+message-back (b ∷ map) symbols e = go (kindOf b) symbols e (message-back map)
+  where
+    go : (k : Kind) (xs : List ℕ) → length xs ≡ messageCount k + messagePlaces map
+        → ((ys : List ℕ) → length ys ≡ messagePlaces map → messageOf map (wordBefore map ys) ≡ ys)
+        → withPlace k (symbolAt k xs) (messageOf map (wordBefore map (restAfter k xs))) ≡ xs
+    go message [] q ih = absurd (omega arith)
+    go message (x ∷ xs) q ih = ap (λ (ys : List ℕ). x ∷ ys) (ih xs (omega arith))
+    go (frozen s) xs q ih = ih xs (omega arith)
 
 -- the map from place i on: the place itself, by its kind, and those after it
 module _ (map : List ℕ) (i : ℕ) (l : i < length map) {k : Kind} (e : kindOf (getD map i 0) ≡ k) where

@@ -44,6 +44,10 @@ emptyRow map = (5, eqb (messagePlaces map) 0)
 abbrev pub coefsRow : List ℕ → Row
 coefsRow cs = (6, anyOutside 1 63 cs)
 
+-- the three rows that judge a code's bytes, in the table's order
+abbrev pub codeTable : (map cs : List ℕ) → List Row
+codeTable map cs = mapRow map ∷ emptyRow map ∷ coefsRow cs ∷ []
+
 -- every coefficient is from 1 to 63
 abbrev pub Coefficients : List ℕ → Type 0
 Coefficients cs = (i : ℕ) → i < length cs → Within 1 63 (getD cs i 1)

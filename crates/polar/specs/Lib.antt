@@ -1,6 +1,7 @@
 pub mod Code
 pub mod Transform
 pub mod Encode
+pub mod Message
 pub mod Tree
 pub mod Halves
 pub mod Parts

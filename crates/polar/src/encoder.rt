@@ -1,4 +1,5 @@
 // The encoder: a message to its codeword.
+use crate::code::code_refusal;
 use crate::places::message_places;
 use crate::places::place_message;
 use crate::transform::transform_block;
@@ -38,19 +39,15 @@ fn encode_refusal(n: usize, map: &[u8], coefs: &[u8], message: &[u8], codeword: 
     if codeword.len() != size {
         return 2;
     }
-    if refusal::any_outside(map, 0, 1) {
-        return 4;
-    }
-    if places == 0 {
-        return 5;
-    }
-    if refusal::any_outside(coefs, 1, 63) {
-        return 6;
+    let by_code = code_refusal(map, coefs);
+    if by_code != 0 {
+        return by_code;
     }
     if refusal::any_outside(message, 0, 63) {
-        return 7;
+        7
+    } else {
+        0
     }
-    0
 }
 
 // Encodes a message: its symbols fill the message places of the map, and the transform by n layers turns that word into the codeword.

@@ -1,8 +1,10 @@
 // The polar code over GF(64): the code, the transform by halves and the encoder.
+mod code;
 mod encoder;
 mod places;
 mod transform;
 
+pub use code::code_refusal;
 pub use encoder::encode;
 pub use places::message_places;
 pub use transform::join_halves;

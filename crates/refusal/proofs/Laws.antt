@@ -46,22 +46,54 @@ taken-none rs p e = walked (subst (Finds rs) e (refusal-finds rs)) p refl
     walked (here q) n z = absurd (let l = n .0 in omega arith)
     walked (later q w) n z = (q, walked w (n .1) z)
 
--- a table in two parts: the first part's refusal is the whole table's
+-- a table in two parts: a walk that ends at a row of the first part is one of the whole table
+pub finds-first : {rs : List Row} {k : ℕ} (ss : List Row) → Finds rs k → (k ≡ 0 → ⊥) → Finds (rs ++ ss) k
+finds-first ss none h = absurd (h refl)
+finds-first ss (here q) h = here q
+finds-first ss (later q w) h = later q (finds-first ss w h)
+
+-- and where no row of the first part fits, a walk down the second part is one of the whole table
+pub finds-second : (rs : List Row) {ss : List Row} {k : ℕ} → NoneFits rs → Finds ss k → Finds (rs ++ ss) k
+finds-second [] h w = w
+finds-second (r ∷ rs) h w = later (h .0) (finds-second rs (h .1) w)
+
+-- so the first part's refusal is the whole table's
 pub first-refused : (rs ss : List Row) → (refusalOf rs ≡ 0 → ⊥) → refusalOf (rs ++ ss) ≡ refusalOf rs
-first-refused rs ss h = walked (refusal-finds rs) h
-  where
-    walked : {ts : List Row} {k : ℕ} → Finds ts k → (k ≡ 0 → ⊥) → refusalOf (ts ++ ss) ≡ k
-    walked none n = absurd (n refl)
-    walked (here q) n = finds-refusal (here q)
-    walked (later q w) n = finds-refusal (later q (subst (Finds _) (walked w n) (refusal-finds _)))
+first-refused rs ss h = finds-refusal (finds-first ss (refusal-finds rs) h)
 
 -- and where the first part has none, the second part's is
 pub first-taken : (rs ss : List Row) → Numbered rs → refusalOf rs ≡ 0 → refusalOf (rs ++ ss) ≡ refusalOf ss
-first-taken rs ss p e = passed rs (taken-none rs p e)
+first-taken rs ss p e = finds-refusal (finds-second rs (taken-none rs p e) (refusal-finds ss))
+
+-- no row of either part fits: the whole table takes it
+pub both-taken : (rs ss : List Row) → NoneFits rs → NoneFits ss → refusalOf (rs ++ ss) ≡ 0
+both-taken rs ss a b = finds-refusal (finds-second rs a (subst (Finds ss) (none-taken ss b) (refusal-finds ss)))
+
+-- the whole table takes it: no row of either part fits
+pub taken-both : (rs ss : List Row) → Numbered rs → Numbered ss → refusalOf (rs ++ ss) ≡ 0 → NoneFits rs × NoneFits ss
+taken-both rs ss p q e = parts rs (taken-none (rs ++ ss) (numbered rs p) e)
   where
-    passed : (ts : List Row) → NoneFits ts → refusalOf (ts ++ ss) ≡ refusalOf ss
-    passed [] h = refl
-    passed (t ∷ ts) h = finds-refusal (later (h .0) (subst (Finds (ts ++ ss)) (passed ts (h .1)) (refusal-finds (ts ++ ss))))
+    numbered : (ts : List Row) → Numbered ts → Numbered (ts ++ ss)
+    numbered [] n = q
+    numbered (t ∷ ts) n = (n .0, numbered ts (n .1))
+
+    parts : (ts : List Row) → NoneFits (ts ++ ss) → NoneFits ts × NoneFits ss
+    parts [] h = (tt, h)
+    parts (t ∷ ts) h = let r = parts ts (h .1) in ((h .0, r .0), r .1)
+
+-- every row that fits has a number for which P holds
+abbrev pub EachFits : (ℕ → Type 0) → List Row → Type 0
+EachFits P [] = Unit {0}
+EachFits P (r ∷ rs) = (r .1 ≡ true → P (r .0)) × EachFits P rs
+
+-- then it holds for the refusal, if it does for 0
+pub refusal-has : (P : ℕ → Type 0) → P 0 → (rs : List Row) → EachFits P rs → P (refusalOf rs)
+refusal-has P z rs = walked (refusal-finds rs)
+  where
+    walked : {ts : List Row} {k : ℕ} → Finds ts k → EachFits P ts → P k
+    walked none h = z
+    walked (here q) h = h .0 q
+    walked (later q w) h = walked w (h .1)
 
 -- what a call leaves, by its answer r
 module _ {A : Type 0} (r : ℕ) (made kept : A) where

@@ -2,7 +2,7 @@
 use mathlib.Core.Path.{_≡_, refl, sym, ap, ap₂, _∙_, subst}
 use mathlib.Core.Logic.{_⊎_, inl, inr}
 use mathlib.Core.List.{List, [], _∷_, _++_, map}
-use Prim.Native.Nat.{ℕ, zero, suc, _+_, _-_, _*_, _≤_, _<_, min, suc-le-suc}
+use Prim.Native.Nat.{ℕ, zero, suc, _+_, _-_, _*_, _/_, _%_, _≤_, _<_, min, suc-le-suc}
 use native.Mathlib.Nat.{add-zero, zero-add, add-suc, suc-add, add-comm, add-assoc, mul-zero, mul-add, mul-le-mul-left, le-of-suc-le-suc, not-suc-le-zero, eq-or-lt-of-le, min-le-left, min-le-right, min-eq-left, min-eq-right, le-trans, le-refl, le-of-lt, le-of-eq, mul-suc}
 use native.Mathlib.Decide.{decLt}
 use native.Mathlib.Numerals.{add-one}
@@ -36,6 +36,14 @@ module _ {A : Type 0} where
   tabulate-ext zero f g h = refl
   tabulate-ext (suc n) f g h =
       ap₂ (λ (x : A) (xs : List A). x ∷ xs) (h 0 (omega arith)) (tabulate-ext n (λ i. f (suc i)) (λ i. g (suc i)) (λ i l. h (suc i) (omega arith)))
+
+  -- a tabulated list in two parts
+  tabulate-parts : (m n : ℕ) (f : ℕ → A) → tabulate (m + n) f ≡ tabulate m f ++ tabulate n (λ i. f (m + i))
+  unfolding tabulate
+  tabulate-parts zero n f = ap (λ (k : ℕ). tabulate k f) (zero-add n) ∙ tabulate-ext n f (λ i. f (0 + i)) (λ i l. ap f (sym (zero-add i)))
+  tabulate-parts (suc m) n f =
+      ap (λ (k : ℕ). tabulate k f) (suc-add m n)
+      ∙ ap (λ (xs : List A). f 0 ∷ xs) (tabulate-parts m n (λ i. f (suc i)) ∙ ap (λ (xs : List A). tabulate m (λ i. f (suc i)) ++ xs) (tabulate-ext n _ _ (λ i l. ap f (sym (suc-add m i)))))
 
 -- lists of w entries each, one after the other
 module _ {A : Type 0} (w : ℕ) (f : ℕ → List A) where
@@ -75,36 +83,45 @@ unfolding joined
 joined-ext zero f g h = refl
 joined-ext (suc n) f g h = ap₂ (λ (xs ys : List _). xs ++ ys) (joined-ext n f g (λ i l. h i (omega arith))) (h n (le-refl (suc n)))
 
+-- vectors of 64, one after the other, as one tabulated list
+pub joined-flat : {A : Type 0} (n : ℕ) (g : ℕ → ℕ → A) → joined n (λ i. tabulate 64 (g i)) ≡ tabulate (64 * n) (λ j. g (j / 64) (j % 64))
+unfolding joined tabulate
+joined-flat zero g = ap (λ (k : ℕ). tabulate k (λ j. g (j / 64) (j % 64))) (sym (mul-zero 64))
+joined-flat (suc n) g =
+    ap₂ (λ (xs ys : List _). xs ++ ys) (joined-flat n g) (tabulate-ext 64 (g n) _ (λ i l. ap₂ g (let e : n ≡ (64 * n + i) / 64 = omega arith in e) (let e : i ≡ (64 * n + i) % 64 = omega arith in e)))
+    ∙ sym (tabulate-parts (64 * n) 64 (λ j. g (j / 64) (j % 64))) ∙ ap (λ (k : ℕ). tabulate k (λ j. g (j / 64) (j % 64))) (sym (mul-suc 64 n))
+
 -- a function of each entry of a list
 pub tabulate-map : {B : Type 0} (d : ℕ) (f : ℕ → B) (xs : List ℕ) → tabulate (length xs) (λ i. f (getD xs i d)) ≡ map f xs
 unfolding tabulate
 tabulate-map d f [] = refl
 tabulate-map d f (x ∷ xs) = ap (λ (ys : List _). f x ∷ ys) (tabulate-map d f xs)
 
--- a loop that fills a list of n numbers in rising order: those before b are f's
-pub record Filled (n : ℕ) (f : ℕ → ℕ) (xs : List ℕ) (b : ℕ) : Type 0 where
+-- a loop that fills a list of n entries in rising order: those before b are f's, whatever an entry past the list's end is read as
+pub record Filled {A : Type 0} (n : ℕ) (f : ℕ → A) (xs : List A) (b : ℕ) : Type 0 where
   pub within : b ≤ n
   pub long : length xs ≡ n
-  pub entries : (i : ℕ) → i < b → getD xs i 0 ≡ f i
+  pub entries : (d : A) (i : ℕ) → i < b → getD xs i d ≡ f i
 
--- where it begins
-pub fill-none : {n : ℕ} {f : ℕ → ℕ} {xs : List ℕ} → length xs ≡ n → Filled n f xs 0
-fill-none e = record { within = omega arith; long = e; entries = λ i l. absurd (not-suc-le-zero l) }
+module _ {A : Type 0} {n : ℕ} {f : ℕ → A} {xs : List A} where
+  -- where it begins
+  pub fill-none : length xs ≡ n → Filled n f xs 0
+  fill-none e = record { within = omega arith; long = e; entries = λ d i l. absurd (not-suc-le-zero l) }
 
--- one number more
-pub fill-more : {n : ℕ} {f : ℕ → ℕ} {xs : List ℕ} {b x : ℕ} → Filled n f xs b → b < n → x ≡ f b → Filled n f (set xs b x) (b + 1)
-fill-more {n} {f} {xs} {b} {x} h l e = record { within = omega arith; long = length-set xs b x ∙ h .long; entries = λ i s. go i s (decLt i b) }
-  where
-    go : (i : ℕ) → i < b + 1 → Dec (i < b) → getD (set xs b x) i 0 ≡ f i
-    go i s (yes t) = getD-set-other xs b i x 0 (λ q. absurd (omega arith)) ∙ h .entries i t
-    go i s (no t) =
-        let q : b ≡ i = omega arith in
-        let w : b < length xs = (let k = h .long in omega arith) in
-        subst (λ (j : ℕ). getD (set xs b x) j 0 ≡ f j) q (getD-set-same xs b x 0 w ∙ e)
+  -- one entry more
+  pub fill-more : {b : ℕ} {x : A} → Filled n f xs b → b < n → x ≡ f b → Filled n f (set xs b x) (b + 1)
+  fill-more {b} {x} h l e = record { within = omega arith; long = length-set xs b x ∙ h .long; entries = λ d i s. go d i s (decLt i b) }
+    where
+      go : (d : A) (i : ℕ) → i < b + 1 → Dec (i < b) → getD (set xs b x) i d ≡ f i
+      go d i s (yes t) = getD-set-other xs b i x d (λ q. absurd (omega arith)) ∙ h .entries d i t
+      go d i s (no t) =
+          let q : b ≡ i = omega arith in
+          let w : b < length xs = (let k = h .long in omega arith) in
+          subst (λ (j : ℕ). getD (set xs b x) j d ≡ f j) q (getD-set-same xs b x d w ∙ e)
 
--- where it ends the list is the tabulated one
-pub fill-all : {n : ℕ} {f : ℕ → ℕ} {xs : List ℕ} {b : ℕ} → Filled n f xs b → n ≤ b → xs ≡ tabulate n f
-fill-all {n} {f} {xs} {b} h l = tabulate-by 0 n f xs (h .long) (λ i s. h .entries i (omega arith))
+  -- where it ends the list is the tabulated one
+  pub fill-all : {b : ℕ} → Filled n f xs b → n ≤ b → xs ≡ tabulate n f
+  fill-all {b} h l = tabulate-by (f 0) n f xs (h .long) (λ i s. h .entries (f 0) i (omega arith))
 
 -- sums are equal by their terms
 pub sum-ext : (n : ℕ) (f g : ℕ → ℕ) → ((i : ℕ) → i < n → f i ≡ g i) → sumTo n f ≡ sumTo n g

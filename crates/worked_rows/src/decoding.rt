@@ -7,7 +7,7 @@ use decoder::Answer;
 use libc::STDOUT_FILENO;
 
 // Prints an answer of `decode`: 0 and the count, or the refusal.
-fn print_answer(answer: Answer) {
+pub(crate) fn print_answer(answer: Answer) {
     match answer {
         Answer::Count(count) => {
             io::print_decimal(STDOUT_FILENO, 0);

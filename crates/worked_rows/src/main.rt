@@ -3,9 +3,11 @@ mod chips;
 mod decoding;
 mod encoding;
 mod print;
+mod trips;
 
 fn main() {
     encoding::print_rows();
     chips::print_rows();
     decoding::print_rows();
+    trips::print_rows();
 }

@@ -10,8 +10,8 @@ use borrow.Author.Needs.{needs}
 use Rattle.vector.specs.Frame.{largest}
 use Rattle.vector.proofs.FrameLaws.{largest-is, largest-most}
 use Rattle.scms.specs.Decoder.{capOf}
-use Rattle.decoder.specs.Refusals.{Decodable}
-use Rattle.decoder.proofs.RefusalLaws.{taken}
+use Rattle.decoder_refusal.specs.Refusals.{Decodable}
+use Rattle.decoder_refusal.proofs.RefusalLaws.{taken}
 use Rattle.decoder.proofs.DecodeLaws.{whole-given, symbols-decoded, count-decoded, report-decoded, promise-refused, promise-accepted}
 use Rattle.decoder.proofs.decoder.decode.Statement.{statement}
 use Rattle.decoder.proofs.decoder.decode.Tie as tie

@@ -5,13 +5,13 @@ use Prim.Native.Nat.{ℕ, _*_, _/_, _≤_}
 use native.Mathlib.Nat.{mul-le-mul-right}
 use native.Mathlib.Omega.{arith}
 use borrow.Author.Needs.{needs}
-use borrow.Author.Tests.{eq-eqb, ne-eqb}
 use lib.ListN.{drop}
 use lib.Pow.{pow-mono}
 use Rattle.refusal.specs.Table.{Row}
 use Rattle.refusal.proofs.Laws.{Finds, none, here, later, finds-refusal}
 use Rattle.refusal.proofs.Within.{below-outside, above-outside, within-inside, equal-false, unequal-true}
 use Rattle.polar.specs.Encode.{encodeTable, encodeRefusal}
+use Rattle.polar.proofs.CodeLaws.{code-refused, code-passed}
 use Rattle.polar.proofs.encoder.encode_refusal.Statement.{statement}
 use Rattle.polar.proofs.encoder.encode_refusal.Tie as tie
 
@@ -43,15 +43,6 @@ s6 c = s5 (c .before)
 abbrev s7 : tie.Else7 → tie.Start
 s7 c = s6 (c .before .before)
 
-abbrev s8 : tie.Else8 → tie.Start
-s8 c = s7 (c .before)
-
-abbrev s9 : tie.Else9 → tie.Start
-s9 c = s8 (c .before .before)
-
-abbrev s10 : tie.Else10 → tie.Start
-s10 c = s9 (c .before .before)
-
 -- the walk past each row
 past2 : (c : tie.Else2) {k : ℕ} → Finds (drop 1 (table (s2 c))) k → Finds (table (s2 c)) k
 past2 c f = later (within-inside 1 8 (s2 c .args .n) (record { least = c .before .if1 .left; most = c .if2 .left })) f
@@ -68,14 +59,9 @@ past5 c f = past4 (c .before .before) (later (equal-false _ _ (c .if5 .left ∙ 
 past6 : (c : tie.Else6) {k : ℕ} → Finds (drop 5 (table (s6 c))) k → Finds (table (s6 c)) k
 past6 c f = past5 (c .before) (later (equal-false _ _ (c .if6 .left ∙ c .before .before .before .before .before .word-length .ensures)) f)
 
-past7 : (c : tie.Else7) {k : ℕ} → Finds (drop 6 (table (s7 c))) k → Finds (table (s7 c)) k
-past7 c f = past6 (c .before .before) (later (sym (c .before .any-outside .ensures) ∙ c .if7 .left) f)
-
-past8 : (c : tie.Else8) {k : ℕ} → Finds (drop 7 (table (s8 c))) k → Finds (table (s8 c)) k
-past8 c f = past7 (c .before) (later (ne-eqb _ 0 (λ q. c .if8 .left (c .before .before .before .before .before .message-places .ensures ∙ q))) f)
-
-past9 : (c : tie.Else9) {k : ℕ} → Finds (drop 8 (table (s9 c))) k → Finds (table (s9 c)) k
-past9 c f = past8 (c .before .before) (later (sym (c .before .any-outside2 .ensures) ∙ c .if9 .left) f)
+-- past the three rows of `code_refusal`
+past7 : (c : tie.Else7) {k : ℕ} → Finds (drop 8 (table (s7 c))) k → Finds (table (s7 c)) k
+past7 c f = past6 (c .before .before) (code-passed _ _ (c .before .code-refusal .ensures) (c .if7 .left) f)
 
 returns : tie.Need-returns
 returns c = ends (c .before .before .before .before .before) (here (below-outside 1 8 (c .before .before .before .before .before .args .n) (c .if1 .taken)))
@@ -113,29 +99,20 @@ returns-5 c = ends (s4 (c .before .before)) (past4 (c .before .before) (here (un
 returns-6 : tie.Need-returns-6
 returns-6 c = ends (s5 (c .before)) (past5 (c .before) (here (unequal-true _ _ (λ q. c .if6 .taken (q ∙ sym (c .before .before .before .before .before .word-length .ensures))))))
 
+code-refusal-requires : tie.Need-code-refusal-requires
+code-refusal-requires c κs = search needs
+
+returns-7 : tie.Need-returns-7
+returns-7 c = ends (s6 (c .before .before)) (past6 (c .before .before) (code-refused _ _ _ (c .before .code-refusal .ensures) (c .if7 .taken)))
+
 any-outside-requires : tie.Need-any-outside-requires
 any-outside-requires c κs = search needs
 
-returns-7 : tie.Need-returns-7
-returns-7 c = ends (s6 (c .before .before)) (past6 (c .before .before) (here (sym (c .before .any-outside .ensures) ∙ c .if7 .taken)))
-
 returns-8 : tie.Need-returns-8
-returns-8 c = ends (s7 (c .before)) (past7 (c .before) (here (eq-eqb _ 0 (sym (c .before .before .before .before .before .message-places .ensures) ∙ c .if8 .taken))))
-
-any-outside-requires-2 : tie.Need-any-outside-requires-2
-any-outside-requires-2 c κs = search needs
+returns-8 c = ends (s7 (c .before .before)) (past7 (c .before .before) (here (sym (c .before .any-outside .ensures) ∙ c .if8 .taken)))
 
 returns-9 : tie.Need-returns-9
-returns-9 c = ends (s8 (c .before .before)) (past8 (c .before .before) (here (sym (c .before .any-outside2 .ensures) ∙ c .if9 .taken)))
-
-any-outside-requires-3 : tie.Need-any-outside-requires-3
-any-outside-requires-3 c κs = search needs
-
-returns-10 : tie.Need-returns-10
-returns-10 c = ends (s9 (c .before .before)) (past9 (c .before .before) (here (sym (c .before .any-outside3 .ensures) ∙ c .if10 .taken)))
-
-returns-11 : tie.Need-returns-11
-returns-11 c = ends (s9 (c .before .before)) (past9 (c .before .before) (later (sym (c .before .any-outside3 .ensures) ∙ c .if10 .left) none))
+returns-9 c = ends (s7 (c .before .before)) (past7 (c .before .before) (later (sym (c .before .any-outside .ensures) ∙ c .if8 .left) none))
 
 pub encode-refusal-spec : {M : Type 1} → statement M
 encode-refusal-spec =
@@ -150,11 +127,8 @@ encode-refusal-spec =
     message-places-requires
     returns-5
     returns-6
-    any-outside-requires
+    code-refusal-requires
     returns-7
+    any-outside-requires
     returns-8
-    any-outside-requires-2
-    returns-9
-    any-outside-requires-3
-    returns-10
-    returns-11)
+    returns-9)

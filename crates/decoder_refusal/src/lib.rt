@@ -1,0 +1,4 @@
+// The refusals of the decoder: by which number of document 01's table `decode` refuses.
+mod refusals;
+
+pub use refusals::decode_refusal;

@@ -1,0 +1,39 @@
+-- No call of the chain refuses what the one before it answered. The premise of a statement is what the call before promises, with the answer 0, which is
+-- that it accepted; the conclusion is that the next call accepts, or by which numbers it does not refuse.
+use Prim.Native.Nat.{ℕ, _*_, _^_, _≤_, _<_}
+use mathlib.Core.Path.{_≡_}
+use mathlib.Core.List.{List}
+use lib.IntN.{ℤ, pos}
+use lib.ListN.{length, getD}
+use Rattle.refusal.specs.Tests.{Within}
+use Rattle.polar.specs.Code.{IsCode}
+use Rattle.polar.specs.Encode.{Encoded}
+use Rattle.ccsk.specs.Chips.{turned}
+use Rattle.ccsk.specs.Spread.{spreadRefusal, Spread}
+use Rattle.ccsk.specs.Samples.{magnitude}
+use Rattle.ccsk.specs.Demap.{demapRefusal, Demapped}
+use Rattle.ccsk.specs.Noiseless.{numberSamples}
+use Rattle.decoder_refusal.specs.Refusals.{decodeRefusal}
+
+-- `spread` takes the codeword that `encode` answered, for a base that 10 does not refuse and a buffer of one number for each symbol
+abbrev pub SpreadTakes : (n : ℕ) (map cs message before codeword : List ℕ) (base : ℕ) (numbers : List ℕ) → Type 0
+SpreadTakes n map cs message before codeword base numbers =
+    Encoded n map cs message before codeword 0 → (turned base 32 ≡ base → ⊥) → length numbers ≡ length codeword
+    → spreadRefusal base codeword numbers ≡ 0
+
+-- the samples sent for the numbers that `spread` answered: with an amplitude from 1 to 127 each is a signed byte, and `demap` takes them, for a gain and a
+-- Qc in range and a buffer of as many penalties
+pub record DemapTakes (base : ℕ) (codeword before numbers : List ℕ) (amplitude top bottom qc : ℕ) (frame : List ℕ) : Type 0 where
+  pub signed-bytes : Within 1 127 amplitude → (j : ℕ) → j < length (numberSamples amplitude numbers)
+      → magnitude (getD (numberSamples amplitude numbers) j (pos 0)) ≤ 127
+  pub taken : Spread base codeword before numbers 0 → Within 1 255 top → Within 1 255 bottom → Within 1 5 qc → length frame ≡ 64 * length numbers
+      → demapRefusal base top bottom qc (numberSamples amplitude numbers) frame ≡ 0
+
+-- what `demap` wrote at Qc for any samples, noise or not: `decode` at that Qc does not refuse it by 8 or 9, whatever else it is given; and accepts it, for a
+-- code with as many places as there are symbols, a Qm in range and buffers of the lengths needed
+pub record DecodeTakes (base top bottom qc : ℕ) (samples : List ℤ) (before frame : List ℕ) (n : ℕ) (map cs : List ℕ) (qm : ℕ) (work symbols report : List ℕ) : Type 0 where
+  pub not-eight : Demapped base top bottom qc samples before frame 0 → decodeRefusal n map cs qc qm frame work symbols report ≡ 8 → ⊥
+  pub not-nine : Demapped base top bottom qc samples before frame 0 → decodeRefusal n map cs qc qm frame work symbols report ≡ 9 → ⊥
+  pub taken : Demapped base top bottom qc samples before frame 0 → IsCode n map cs → length samples ≡ 64 * 2 ^ n → Within qc 13 qm
+      → length work ≡ 65 * 2 ^ n → length symbols ≡ 2 ^ n → length report ≡ 64 * 2 ^ n
+      → decodeRefusal n map cs qc qm frame work symbols report ≡ 0

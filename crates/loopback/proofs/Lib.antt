@@ -1,0 +1,5 @@
+pub mod RefusalLaws
+pub mod ReadLaws
+pub mod SampleLaws
+pub mod SendLaws
+pub mod TripLaws

@@ -1,0 +1,222 @@
+// What `round_trip` answers and leaves, printed. A line 'l': where the call is taken 0, the count of clipped entries, how many numbers of the work buffer
+// are not 0 afterwards, a checksum each of the samples, the frame and the report, and 1 where the decoded message is the message, else 0; on a refusal its
+// number, and how many entries of each of the six buffers have changed. Where the call is taken, a line 'm' with the decoded message and a line 'y' with
+// the symbols.
+use crate::code::kernels;
+use crate::code::places;
+use crate::decoded::count_bytes;
+use crate::decoded::count_numbers;
+use crate::decoded::same;
+use crate::draws::front;
+use crate::draws::lent;
+use crate::draws::lent_length;
+use crate::draws::lent_numbers;
+use crate::draws::lent_samples;
+use crate::print::print_bytes;
+use crate::print::print_number;
+use crate::print::wide;
+use crate::sending::Call;
+use decoder::Answer;
+use libc::STDOUT_FILENO;
+ghost use Prim.Native.Nat.{_≤_};
+ghost use lib.ListN.{length};
+
+// The byte of a sample, as a number.
+fn sample_byte(x: i8) -> u64 {
+    (x as i16 + 256) as u64 % 256
+}
+
+// A checksum with one more number.
+fn checksum_with(sum: u64, x: u64) -> u64 {
+    (sum % 65521 * 31 + x % 65536) % 65521
+}
+
+// The checksum of the numbers of a buffer: it depends on each and on its place.
+fn checksum(s: &[u16]) -> u64 {
+    let mut sum: u64 = 1;
+    let mut i: usize = 0;
+    while i < s.len() {
+        sum = checksum_with(sum, wide(s[i]));
+        i += 1;
+    }
+    sum
+}
+
+// The same of the bytes of samples.
+fn sample_checksum(s: &[i8]) -> u64 {
+    let mut sum: u64 = 1;
+    let mut i: usize = 0;
+    while i < s.len() {
+        sum = checksum_with(sum, sample_byte(s[i]));
+        i += 1;
+    }
+    sum
+}
+
+// How many samples of a buffer have this byte.
+fn count_samples(s: &[i8], byte: u64) -> u64
+    ensures { λ r. ⌜ r ≤ length (now (s .entry)) ⌝ }
+{
+    let mut count: u64 = 0;
+    let mut i: usize = 0;
+    while i < s.len() {
+        count += same(sample_byte(s[i]), byte);
+        i += 1;
+    }
+    count
+}
+
+// 1 where two buffers hold the same bytes, else 0.
+fn same_bytes(s: &[u8], t: &[u8]) -> u64 {
+    if s.len() != t.len() {
+        return 0;
+    }
+    let mut i: usize = 0;
+    while i < s.len() {
+        if s[i] != t[i] {
+            return 0;
+        }
+        i += 1;
+    }
+    1
+}
+
+// Prints how many numbers of a buffer are not x.
+fn print_other_numbers(s: &[u16], x: u64) {
+    print_number(s.len() as u64 - count_numbers(s, x));
+}
+
+// Prints how many bytes of a buffer are not 255.
+fn print_other_bytes(s: &[u8]) {
+    print_number(s.len() as u64 - count_bytes(s, 255));
+}
+
+// The lines of a call that was taken.
+fn print_taken(
+    count: u32,
+    message: &[u8],
+    samples: &[i8],
+    frame: &[u16],
+    work: &[u16],
+    symbols: &[u8],
+    report: &[u16],
+    decoded: &[u8],
+) {
+    io::write_all(STDOUT_FILENO, b"l 0");
+    print_number(count as u64);
+    print_other_numbers(work, 0);
+    print_number(sample_checksum(samples));
+    print_number(checksum(frame));
+    print_number(checksum(report));
+    print_number(same_bytes(message, decoded));
+    io::write_all(STDOUT_FILENO, b"\nm");
+    print_bytes(decoded);
+    io::write_all(STDOUT_FILENO, b"\ny");
+    print_bytes(symbols);
+    io::write_all(STDOUT_FILENO, b"\n");
+}
+
+// The line of a call that was refused. A sample before the call has the byte 249.
+fn print_refused(
+    number: u8,
+    samples: &[i8],
+    frame: &[u16],
+    work: &[u16],
+    symbols: &[u8],
+    report: &[u16],
+    decoded: &[u8],
+) {
+    io::write_all(STDOUT_FILENO, b"l");
+    print_number(number as u64);
+    print_number(samples.len() as u64 - count_samples(samples, 249));
+    print_other_numbers(frame, 4711);
+    print_other_numbers(work, 4711);
+    print_other_bytes(symbols);
+    print_other_numbers(report, 4711);
+    print_other_bytes(decoded);
+    io::write_all(STDOUT_FILENO, b"\n");
+}
+
+// Calls `round_trip`, and prints the lines.
+fn trip_lines(
+    call: Call,
+    map: &[u8],
+    coefs: &[u8],
+    message: &[u8],
+    samples: &mut [i8],
+    frame: &mut [u16],
+    work: &mut [u16],
+    symbols: &mut [u8],
+    report: &mut [u16],
+    decoded: &mut [u8],
+) {
+    let answer = loopback::round_trip(
+        call.n,
+        map,
+        coefs,
+        message,
+        call.base,
+        call.amplitude,
+        call.top,
+        call.bottom,
+        call.qc,
+        call.qm,
+        samples,
+        frame,
+        work,
+        symbols,
+        report,
+        decoded,
+    );
+    match answer {
+        Answer::Count(count) => {
+            print_taken(
+                count,
+                message,
+                samples,
+                frame,
+                work,
+                symbols,
+                report,
+                decoded,
+            )
+        }
+        Answer::Refused(number) => {
+            print_refused(number, samples, frame, work, symbols, report, decoded)
+        }
+    }
+}
+
+// The same with the lengths that the damages leave, from what was drawn for n layers. The message places are counted in the map as lent.
+pub(crate) fn trip_lent(
+    call: Call,
+    map: &[u8],
+    coefs: &[u8],
+    message: &[u8],
+    samples: &mut [i8],
+    frame: &mut [u16],
+    work: &mut [u16],
+    symbols: &mut [u8],
+    report: &mut [u16],
+    decoded: &mut [u8],
+) {
+    let d = call.d;
+    let e = call.e;
+    let size = places(call.n) % 512;
+    let lent_map = front(map, lent_length(size, d, e, 1));
+    let lent_coefs = front(coefs, lent_length(kernels(call.n), d, e, 3));
+    let count = polar::message_places(lent_map);
+    let lent_message = front(message, lent_length(count, d, e, 43));
+    trip_lines(
+        call,
+        lent_map,
+        lent_coefs,
+        lent_message,
+        lent_samples(samples, lent_length(size * 64, d, e, 45)),
+        lent_numbers(frame, lent_length(size * 64, d, e, 5)),
+        lent_numbers(work, lent_length(size * 65, d, e, 7)),
+        lent(symbols, lent_length(size, d, e, 9)),
+        lent_numbers(report, lent_length(size * 64, d, e, 11)),
+        lent(decoded, lent_length(count, d, e, 47)),
+    );
+}

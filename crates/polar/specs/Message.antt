@@ -1,0 +1,15 @@
+-- The message in a word before the transform: the inverse of Encode.wordBefore, for messages of K symbols.
+use Prim.Native.Nat.{ℕ}
+use mathlib.Core.List.{List, [], _∷_}
+use lib.ListN.{getD, drop}
+use Rattle.polar.specs.Code.{Kind, message, frozen, kindOf}
+
+-- the message symbols from a place on: its own symbol s before those of the later places, if it is a message place
+unfoldable pub withPlace : Kind → ℕ → List ℕ → List ℕ
+withPlace message s symbols = s ∷ symbols
+withPlace (frozen fixed) s symbols = symbols
+
+-- the symbols at the message places of a word, in rising order
+unfoldable pub messageOf : List ℕ → List ℕ → List ℕ
+messageOf [] word = []
+messageOf (byte ∷ map) word = withPlace (kindOf byte) (getD word 0 0) (messageOf map (drop 1 word))
