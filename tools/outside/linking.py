@@ -1,6 +1,7 @@
 """The whole chain for a message sent without noise: encode, spread, samples,
 weigh, decode and read the message, written literally from the paper. Plain
-and slow on purpose. Each step is the call of scms.py, chips.py or decoding.py.
+and slow on purpose. Encoding, spreading, weighing and decoding are the calls
+of scms.py, chips.py and decoding.py.
 
 Open points in the paper, and the reading chosen for each:
 

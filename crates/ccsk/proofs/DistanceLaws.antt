@@ -1,4 +1,5 @@
--- The number of chips in which two symbols differ: it depends on their difference mod 64 alone, and is at least 2 where the base is not refused.
+-- The number of chips in which two symbols differ: it depends on their difference mod 64 alone, and for two different symbols it is at least 2 where the
+-- base is not refused.
 use mathlib.Core.Path.{_≡_, refl, ap, ap₂, _∙_}
 use mathlib.Core.Bool.{Bool, true, false, cond}
 use Prim.Native.Nat.{ℕ, zero, suc, _+_, _*_, _%_, _-_, _^_, _≤_, _<_, min}

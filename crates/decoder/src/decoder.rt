@@ -4,7 +4,7 @@ ghost use mathlib.Core.Path.{_≡_};
 ghost use lib.ListN.{length, replicate};
 ghost use Rattle.decoder.specs.Decode.{Decoded};
 
-// What `decode` answers.
+// What `decode` answers, and a call that ends in it.
 pub enum Answer {
     // The frame was decoded: the count of clipped entries over all variable nodes.
     Count(u32),

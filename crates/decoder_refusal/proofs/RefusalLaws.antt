@@ -162,7 +162,7 @@ module _ (n : ℕ) (map cs frame work symbols report : List ℕ) where
       → r ≡ decodeRefusal n map cs qc qm frame work symbols report
   unfolding decodeRefusal
   size-refused qc qm r e h =
-      e ∙ sym (first-refused (sizeTable n map cs frame work symbols report) (contentTable (2 ^ n) map cs qc qm frame) (λ q. h (e ∙ q)))
+      first-refused (sizeTable n map cs frame work symbols report) (contentTable (2 ^ n) map cs qc qm frame) e h
 
   -- they are taken: the frame has 2^n vectors, and the rest decides
   pub size-taken : (qc qm r : ℕ) → refusalOf (sizeTable n map cs frame work symbols report) ≡ 0
@@ -172,8 +172,8 @@ module _ (n : ℕ) (map cs frame work symbols report : List ℕ) where
       let none = taken-none (sizeTable n map cs frame work symbols report) sizes-numbered e in
       let long = false-equal (length frame) (64 * 2 ^ n) (none .1 .1 .1 .0) in
       let places : length frame / 64 ≡ 2 ^ n = omega arith in
-      f ∙ ap (λ (k : ℕ). refusalOf (contentTable k map cs qc qm frame)) places
-      ∙ sym (first-taken (sizeTable n map cs frame work symbols report) (contentTable (2 ^ n) map cs qc qm frame) sizes-numbered e)
+      first-taken (sizeTable n map cs frame work symbols report) (contentTable (2 ^ n) map cs qc qm frame) sizes-numbered e
+      (f ∙ ap (λ (k : ℕ). refusalOf (contentTable k map cs qc qm frame)) places)
 
 -- ---- taken exactly when no row fits
 module _ (n : ℕ) (map cs : List ℕ) (qc qm : ℕ) (frame work symbols report : List ℕ) where

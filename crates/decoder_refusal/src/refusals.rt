@@ -87,9 +87,9 @@ fn content_refusal(map: &[u8], coefs: &[u8], qc: u32, qm: u32, frame: &[u16]) ->
     if refusal::is_outside(qm, qc, 13) {
         return 3;
     }
-    let refused = polar::code_refusal(map, coefs);
-    if refused != 0 {
-        return refused;
+    let by_code = polar::code_refusal(map, coefs);
+    if by_code != 0 {
+        return by_code;
     }
     let above = any_above(frame, vector::largest(qc));
     let without_zero = any_without_zero(frame);

@@ -1,14 +1,13 @@
 -- The noiseless statement holds: each place's penalties are 0 at the symbol sent and nowhere else, so the decoder answers the word before the
 -- transform; and when its premise holds.
-use mathlib.Core.Path.{_≡_, refl, sym, ap, _∙_, subst}
+use mathlib.Core.Path.{_≡_, sym, ap, _∙_, subst}
 use mathlib.Core.List.{List}
-use Prim.Native.Nat.{ℕ, _+_, _*_, _-_, _^_, _≤_, _<_}
+use Prim.Native.Nat.{ℕ, _*_, _^_, _≤_, _<_}
 use native.Mathlib.Nat.{mul-le-mul-left, mul-le-mul-right, mul-comm, le-trans}
 use native.Mathlib.Omega.{arith}
 use lib.IntN.{ℤ}
-use lib.ListN.{length, getD}
+use lib.ListN.{getD}
 use lib.Pow.{pow-mono, pow-pos}
-use Rattle.refusal.specs.Tests.{Within}
 use Rattle.vector.specs.Vector.{vectorAt, OnlyZero}
 use Rattle.polar.specs.Code.{IsWord}
 use Rattle.polar.specs.Encode.{wordBefore, codewordOf, Encodable}
@@ -28,12 +27,15 @@ use Rattle.scms.proofs.Noiseless.{noiseless}
 use Rattle.link.specs.Noiseless.{ChainInput, messageSamples, messageFrame, NoiselessPremise, GivenBack, NoiselessStatement, PremiseConditions, Corollary}
 
 module _ (n : ℕ) (map cs message : List ℕ) (base amplitude top bottom qc qm : ℕ) (h : ChainInput n map cs message base amplitude top bottom qc qm) where
+  -- the word before the transform
   abbrev u : List ℕ
   u = wordBefore map message
 
+  -- the codeword
   abbrev x : List ℕ
   x = codewordOf n map cs message
 
+  -- the frame weighed from what is sent
   abbrev frame : List ℕ
   frame = messageFrame n map cs message base amplitude top bottom qc
 
@@ -53,16 +55,16 @@ module _ (n : ℕ) (map cs message : List ℕ) (base amplitude top bottom qc qm 
   codeword = codeword-word n map cs message map encodable
 
   -- the 64 numbers of place i are weighed from what is sent for its symbol
-  weighed-place : (i : ℕ) → i < 2 ^ n → vectorAt frame i ≡ llrs base top bottom qc (sentSymbol base amplitude (getD x i 0))
+  demapped-place : (i : ℕ) → i < 2 ^ n → vectorAt frame i ≡ llrs base top bottom qc (sentSymbol base amplitude (getD x i 0))
   unfolding messageFrame messageSamples
-  weighed-place i l =
+  demapped-place i l =
       ap (λ (ys : List ℤ). vectorAt (frameOf base top bottom qc ys) i) (numbers-sent amplitude base x)
       ∙ sent-vector base amplitude x top bottom qc i (let e = codeword .long in omega arith)
 
-  -- the premise at a place, by the frame and by the symbol sent
+  -- the penalty of v at place i, by the frame and by the symbol sent there
   at-place : (i v : ℕ) → i < 2 ^ n → getD (vectorAt frame i) v 0 ≡ sentLlr base amplitude top bottom qc (getD x i 0) v
   unfolding sentLlr
-  at-place i v l = ap (λ (w : List ℕ). getD w v 0) (weighed-place i l)
+  at-place i v l = ap (λ (w : List ℕ). getD w v 0) (demapped-place i l)
 
   -- so place by place it is the premise on the symbol sent there
   premise-at : NoiselessPremise n map cs message base amplitude top bottom qc → (i : ℕ) → i < 2 ^ n → Premise base amplitude top bottom qc (getD x i 0)
@@ -71,7 +73,7 @@ module _ (n : ℕ) (map cs message : List ℕ) (base amplitude top bottom qc qm 
   -- the frame is that of the codeword
   sent : NoiselessPremise n map cs message base amplitude top bottom qc → Sent n frame x
   sent p i l =
-      subst (λ (w : List ℕ). OnlyZero w (getD x i 0)) (sym (weighed-place i l))
+      subst (λ (w : List ℕ). OnlyZero w (getD x i 0)) (sym (demapped-place i l))
       (clean base amplitude (getD x i 0) (codeword .symbols i l) top bottom qc (h .gain-bottom .least) (h .channel-precision .least) (premise-at p i l))
 
   -- so the word is given back, and the message with it
@@ -90,7 +92,7 @@ module _ (n : ℕ) (map cs message : List ℕ) (base amplitude top bottom qc qm 
       subst (λ (y : ℕ). 1 ≤ y) (sym (at-place i v l))
       (apart-premise base amplitude (getD x i 0) (codeword .symbols i l) top bottom qc (h .gain-bottom .least) (h .channel-precision .least) p v lv d)
 
-  -- when the premise holds: a word has a place 0, and any two shifts differ in two chips
+  -- when the premise holds: a word has a place 0, and every shift differs from shift 0 in at least two chips
   when-held : PremiseConditions n map cs message base amplitude top bottom qc
   when-held = record {
     apart-holds = apart-holds;

@@ -1,4 +1,4 @@
--- The table of worked rows holds, by computing every row from the definitions.
+-- The table of worked rows holds, by computing every row from the definitions; the two claims on the premise come from the corollary.
 use mathlib.Core.Path.{_≡_, refl}
 use mathlib.Core.List.{List}
 use Prim.Native.Nat.{ℕ}

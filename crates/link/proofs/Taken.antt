@@ -2,17 +2,17 @@
 use mathlib.Core.Path.{_≡_, refl, sym, ap, _∙_, subst}
 use mathlib.Core.Bool.{Bool, true, false}
 use mathlib.Core.List.{List}
-use Prim.Native.Nat.{ℕ, zero, _*_, _/_, _%_, _^_, _≤_, _<_}
+use Prim.Native.Nat.{ℕ, _*_, _/_, _%_, _^_, _<_}
 use native.Mathlib.Nat.{le-refl}
 use native.Mathlib.Decide.{ℕ-discrete}
 use native.Mathlib.Omega.{arith}
+use lib.Dec.{lit<}
 use lib.IntN.{ℤ, pos}
 use lib.ListN.{length, getD, length-map}
 use lib.Pow.{pow-mono, pow-pos}
 use Rattle.refusal.specs.Table.{refusalOf}
 use Rattle.refusal.specs.Tests.{Within}
-use Rattle.refusal.proofs.Laws.{EachFits, refusal-has, when-taken}
-use Rattle.vector.specs.Vector.{tabulate}
+use Rattle.refusal.proofs.Laws.{refusal-has, when-taken}
 use Rattle.vector.specs.Frame.{IsFrame}
 use Rattle.vector.proofs.Laws.{length-tabulate, getD-tabulate}
 use Rattle.polar.specs.Encode.{codewordOf, encodeRefusal, encodeBuffer, Encodable, Encoded}
@@ -94,7 +94,7 @@ module _ (base : ℕ) (codeword before numbers : List ℕ) (s : Spread base code
   is-numbers = s .numbers ∙ when-taken (spreadRefusal base codeword before) (numbersOf base codeword) before (sym (s .answer))
 
   -- one for each
-  pub as-many : length numbers ≡ length codeword
+  as-many : length numbers ≡ length codeword
   unfolding numbersOf
   as-many = ap length is-numbers ∙ length-map codeword (turned base)
 
@@ -131,6 +131,10 @@ demap-takes base codeword before numbers amplitude top bottom qc frame = record 
 abbrev Neither : ℕ → Type 0
 Neither k = (k ≡ 8 → ⊥) × (k ≡ 9 → ⊥)
 
+-- a smaller number is neither
+below : {k : ℕ} → k < 8 → Neither k
+below l = (λ q. absurd (omega arith), λ q. absurd (omega arith))
+
 -- a test that does not fit
 fits-not : {b : Bool} → b ≡ false → b ≡ true → ⊥
 fits-not e f = absurd (let z : _≡_ {A = ℕ} 0 1 = cc in omega arith)
@@ -140,22 +144,22 @@ module _ (n : ℕ) (map cs : List ℕ) (qc qm : ℕ) (frame work symbols report 
   -- no row on n and the lengths has them
   by-size : Neither (refusalOf (sizeTable n map cs frame work symbols report))
   by-size =
-      refusal-has Neither (λ q. absurd (omega arith), λ q. absurd (omega arith)) (sizeTable n map cs frame work symbols report)
-      ((λ e. (λ q. absurd (omega arith), λ q. absurd (omega arith))), ((λ e. (λ q. absurd (omega arith), λ q. absurd (omega arith))), ((λ e. (λ q. absurd (omega arith), λ q. absurd (omega arith))), ((λ e. (λ q. absurd (omega arith), λ q. absurd (omega arith))), ((λ e. (λ q. absurd (omega arith), λ q. absurd (omega arith))), ((λ e. (λ q. absurd (omega arith), λ q. absurd (omega arith))), ((λ e. (λ q. absurd (omega arith), λ q. absurd (omega arith))), tt)))))))
+      refusal-has Neither (below (lit< tt)) (sizeTable n map cs frame work symbols report)
+      ((λ e. below (lit< tt)), ((λ e. below (lit< tt)), ((λ e. below (lit< tt)), ((λ e. below (lit< tt)), ((λ e. below (lit< tt)), ((λ e. below (lit< tt)), ((λ e. below (lit< tt)), tt)))))))
 
   -- of the others two have them, and do not fit
   by-content : Neither (refusalOf (contentTable (length frame / 64) map cs qc qm frame))
   by-content =
-      refusal-has Neither (λ q. absurd (omega arith), λ q. absurd (omega arith)) (contentTable (length frame / 64) map cs qc qm frame) (
-        (λ e. (λ q. absurd (omega arith), λ q. absurd (omega arith))),
+      refusal-has Neither (below (lit< tt)) (contentTable (length frame / 64) map cs qc qm frame) (
+        (λ e. below (lit< tt)),
         (
-          (λ e. (λ q. absurd (omega arith), λ q. absurd (omega arith))),
+          (λ e. below (lit< tt)),
           (
-            (λ e. (λ q. absurd (omega arith), λ q. absurd (omega arith))),
+            (λ e. below (lit< tt)),
             (
-              (λ e. (λ q. absurd (omega arith), λ q. absurd (omega arith))),
+              (λ e. below (lit< tt)),
               (
-                (λ e. (λ q. absurd (omega arith), λ q. absurd (omega arith))),
+                (λ e. below (lit< tt)),
                 (
                   (λ e. absurd (fits-not (small-frame qc frame f) e)),
                   ((λ e. absurd (fits-not (zeros-frame qc frame f (length frame / 64) (le-refl (length frame / 64))) e)), tt),
@@ -176,17 +180,17 @@ module _ (n : ℕ) (map cs : List ℕ) (qc qm : ℕ) (frame work symbols report 
 
 module _ (base top bottom qc : ℕ) (samples : List ℤ) (before frame : List ℕ) (d : Demapped base top bottom qc samples before frame 0) where
   -- what `demap` wrote is what is weighed from the samples
-  pub is-weighed : frame ≡ frameOf base top bottom qc samples
+  pub is-demapped : frame ≡ frameOf base top bottom qc samples
   unfolding demapBuffer
-  is-weighed = d .frame ∙ when-taken (demapRefusal base top bottom qc samples before) (frameOf base top bottom qc samples) before (sym (d .answer))
+  is-demapped = d .frame ∙ when-taken (demapRefusal base top bottom qc samples before) (frameOf base top bottom qc samples) before (sym (d .answer))
 
   -- which is a frame
   written-frame : IsFrame qc frame
-  written-frame = subst (IsFrame qc) (sym is-weighed) (frame-fits base top bottom qc samples)
+  written-frame = subst (IsFrame qc) (sym is-demapped) (frame-fits base top bottom qc samples)
 
   -- of 64 penalties for each of N symbols
   written-long : (n : ℕ) → length samples ≡ 64 * 2 ^ n → length frame ≡ 64 * 2 ^ n
-  written-long n l = let e = ap length is-weighed ∙ length-frame base top bottom qc samples in omega arith
+  written-long n l = let e = ap length is-demapped ∙ length-frame base top bottom qc samples in omega arith
 
 -- `decode` does not refuse it by 8 or 9, and accepts it for a code of that length
 pub decode-takes : (base top bottom qc : ℕ) (samples : List ℤ) (before frame : List ℕ) (n : ℕ) (map cs : List ℕ) (qm : ℕ) (work symbols report : List ℕ)

@@ -1,15 +1,15 @@
 -- Reading a message place by place: what is read before place j, and the message from j on, are the whole message.
 use mathlib.Core.Path.{_≡_, sym, ap, ap₂, _∙_, subst}
-use mathlib.Core.List.{List, _∷_, _++_}
+use mathlib.Core.List.{List, _++_}
 use Prim.Native.Nat.{ℕ, suc, _+_, _≤_, _<_}
-use native.Mathlib.Nat.{add-zero}
 use native.Mathlib.Numerals.{add-one}
 use native.Mathlib.Omega.{arith}
 use lib.ListN.{length, getD, take, drop, set, length-set}
-use lib.Seq.{drop-cons, drop-drop, getD-drop, take-suc-set, append-snoc}
+use lib.Seq.{drop-cons, take-suc-set, append-snoc}
 use Rattle.polar.specs.Code.{Kind, message, frozen, kindOf, messageCount, messagePlaces}
+use Rattle.polar.specs.Encode.{symbolAt, restAfter}
 use Rattle.polar.specs.Message.{withPlace, messageOf}
-use Rattle.polar.proofs.MessageLaws.{places-from}
+use Rattle.polar.proofs.MessageLaws.{places-from, next-placed, next-left}
 
 -- how far reading has come at place j: `next` symbols of the message are read
 pub record ReadTo (map word before read : List ℕ) (next j : ℕ) : Type 0 where
@@ -27,11 +27,11 @@ as-read {map} {word} {before} {read} {read′} {next} {next′} {j} er en h =
 module _ (map word : List ℕ) (j : ℕ) (l : j < length map) {k : Kind} (e : kindOf (getD map j 0) ≡ k) where
   -- the message from place j on: the place's own symbol, by its kind, and those after it
   message-from : messageOf (drop j map) (drop j word) ≡ withPlace k (getD word j 0) (messageOf (drop (j + 1) map) (drop (j + 1) word))
-  unfolding messageOf
+  unfolding messageOf symbolAt restAfter
   message-from =
       ap (λ (x : List ℕ). messageOf x (drop j word)) (drop-cons map j 0 l)
       ∙ ap (λ (x : Kind). withPlace x (getD (drop j word) 0 0) (messageOf (drop (suc j) map) (drop 1 (drop j word)))) e
-      ∙ ap₂ (λ (s : ℕ) (w : List ℕ). withPlace k s (messageOf (drop (suc j) map) w)) (getD-drop j word 0 0 ∙ ap (λ (x : ℕ). getD word x 0) (add-zero j)) (drop-drop 1 j word)
+      ∙ ap₂ (λ (s : ℕ) (w : List ℕ). withPlace k s (messageOf (drop (suc j) map) w)) (next-placed word j) (next-left word j)
       ∙ ap (λ (x : ℕ). withPlace k (getD word j 0) (messageOf (drop x map) (drop (j + 1) word))) (sym (add-one j))
 
 module _ (map word before read : List ℕ) (next j : ℕ) (l : j < length map) (h : ReadTo map word before read next j) where

@@ -1,5 +1,5 @@
 -- The laws of the refusals of `round_trip`: the two parts of its table, and what it means that a call is taken.
-use mathlib.Core.Path.{_≡_, sym, _∙_}
+use mathlib.Core.Path.{_≡_}
 use mathlib.Core.List.{List}
 use Prim.Native.Nat.{ℕ, _*_, _^_}
 use borrow.Author.Tests.{ne-eqb, eqb-false}
@@ -38,12 +38,12 @@ module _ (n : ℕ) (map cs message : List ℕ) (base amplitude top bottom qc qm 
   -- the sizes are refused
   pub size-refused : (r : ℕ) → r ≡ refusalOf sizes → (r ≡ 0 → ⊥) → r ≡ refusal
   unfolding tripRefusal
-  size-refused r e h = e ∙ sym (first-refused sizes contents (λ q. h (e ∙ q)))
+  size-refused r e h = first-refused sizes contents e h
 
   -- they are taken: the rest decides
   pub size-taken : (r : ℕ) → refusalOf sizes ≡ 0 → r ≡ refusalOf contents → r ≡ refusal
   unfolding tripRefusal
-  size-taken r e f = f ∙ sym (first-taken sizes contents sizes-numbered e)
+  size-taken r e f = first-taken sizes contents sizes-numbered e f
 
   -- taken: what the rows test holds
   pub taken : refusal ≡ 0 → TripInput n map cs message base amplitude top bottom qc qm samples frame work symbols report decoded

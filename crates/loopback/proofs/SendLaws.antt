@@ -1,10 +1,9 @@
 -- What is sent: no call refuses what it is given, so the codeword, the numbers and the samples are those of the message.
 use mathlib.Core.Path.{_≡_, sym, ap, _∙_, subst}
 use mathlib.Core.List.{List}
-use Prim.Native.Nat.{ℕ, _*_, _^_}
+use Prim.Native.Nat.{ℕ}
 use lib.IntN.{ℤ}
-use lib.ListN.{length}
-use Rattle.polar.specs.Encode.{codewordOf, Encoded}
+use Rattle.polar.specs.Encode.{Encoded}
 use Rattle.polar.proofs.EncodeLaws.{takes}
 use Rattle.ccsk.specs.Spread.{numbersOf, Spread}
 use Rattle.ccsk.specs.Noiseless.{numberSamples}

@@ -16,7 +16,7 @@ use Rattle.decoder.specs.declared.decoder.Answer.{Answer}
 use Rattle.decoder.specs.declared.decoder.Answer.the-variants.{Refused}
 use Rattle.decoder.specs.Decode.{returned, decodeWork, decodeReport, Decoded}
 use Rattle.link.specs.Noiseless.{messageSamples, messageFrame, NoiselessPremise, GivenBack}
-use Rattle.link.proofs.Taken.{demappable, is-weighed, decode-takes}
+use Rattle.link.proofs.Taken.{demappable, is-demapped, decode-takes}
 use Rattle.link.proofs.Noiseless.{noiseless-statement}
 use Rattle.loopback.specs.Refusals.{tripRefusal, TripInput}
 use Rattle.loopback.specs.RoundTrip.{tripAnswer, tripSamples, tripFrame, tripWork, tripSymbols, tripReport, tripDecoded, RoundTrip}
@@ -96,7 +96,7 @@ module _ {n : ℕ} {map cs message : List ℕ} {base amplitude top bottom qc qm 
   abbrev cap : ℕ
   cap = scms.capOf qm
 
-  -- it is 0
+  -- the refusal is 0
   none : refusal ≡ 0
   none = takes n map cs message base amplitude top bottom qc qm samples frame work symbols report decoded t
 
@@ -121,9 +121,9 @@ module _ {n : ℕ} {map cs message : List ℕ} {base amplitude top bottom qc qm 
         (d .answer ∙ demappable base top bottom qc samples′ frame (2 ^ n) places (long ∙ t .samples-long) (t .frame-long) (c .sendable .base-turns) (c .gain-top) (c .gain-bottom) (c .channel-precision)) d
 
     -- so the frame is the one weighed from those sent
-    frame-weighed : frame′ ≡ demapped
+    frame-demapped : frame′ ≡ demapped
     unfolding messageFrame
-    frame-weighed = is-weighed base top bottom qc samples′ frame frame′ taken-samples ∙ ap (frameOf base top bottom qc) is
+    frame-demapped = is-demapped base top bottom qc samples′ frame frame′ taken-samples ∙ ap (frameOf base top bottom qc) is
 
     -- and `decode` accepts it
     decode-accepts : decodeRefusal n map cs qc qm frame′ work symbols report ≡ 0
@@ -138,7 +138,7 @@ module _ {n : ℕ} {map cs message : List ℕ} {base amplitude top bottom qc qm 
     promise-accepted p m =
         let k = decode-accepts in
         let kr = decodeRefusal n map cs qc qm frame′ work symbols report in
-        let at-frame = frame-weighed in
+        let at-frame = frame-demapped in
         let decided = p .decided k ∙ ap (scms.symbols n cap cs map) at-frame in
         promise
         (p .counted k ∙ λ i. record { number = sym none i; values = (ap (λ (f : List ℕ). scms.count n cap cs map f ∷ []) at-frame ∙ sym (when-taken refusal (scms.count n cap cs map demapped ∷ []) [] none)) i })

@@ -4,7 +4,6 @@ use crate::refusals::trip_refusal;
 use crate::samples::write_samples;
 use decoder::Answer;
 ghost use mathlib.Core.Path.{_≡_};
-ghost use lib.ListN.{length};
 ghost use Rattle.link.specs.Noiseless.{messageSamples};
 ghost use Rattle.loopback.specs.RoundTrip.{RoundTrip};
 ghost use Rattle.loopback.specs.Parts.{SendingWith, Sending};

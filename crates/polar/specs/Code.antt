@@ -44,7 +44,7 @@ emptyRow map = (5, eqb (messagePlaces map) 0)
 abbrev pub coefsRow : List ℕ → Row
 coefsRow cs = (6, anyOutside 1 63 cs)
 
--- the three rows that judge a code's bytes, in the table's order
+-- the three rows that judge a code's bytes, in the table's order; the table of each call that is given a code has the same three, one after the other
 abbrev pub codeTable : (map cs : List ℕ) → List Row
 codeTable map cs = mapRow map ∷ emptyRow map ∷ coefsRow cs ∷ []
 

@@ -1,4 +1,4 @@
--- The message in a word before the transform: the inverse of Encode.wordBefore, for messages of K symbols.
+-- The message in a word before the transform: reading it undoes Encode.wordBefore, for messages of K symbols.
 use Prim.Native.Nat.{ℕ}
 use mathlib.Core.List.{List, [], _∷_}
 use lib.ListN.{getD, drop}

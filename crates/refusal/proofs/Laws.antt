@@ -58,12 +58,12 @@ finds-second [] h w = w
 finds-second (r ∷ rs) h w = later (h .0) (finds-second rs (h .1) w)
 
 -- so the first part's refusal is the whole table's
-pub first-refused : (rs ss : List Row) → (refusalOf rs ≡ 0 → ⊥) → refusalOf (rs ++ ss) ≡ refusalOf rs
-first-refused rs ss h = finds-refusal (finds-first ss (refusal-finds rs) h)
+pub first-refused : (rs ss : List Row) {r : ℕ} → r ≡ refusalOf rs → (r ≡ 0 → ⊥) → r ≡ refusalOf (rs ++ ss)
+first-refused rs ss e h = e ∙ sym (finds-refusal (finds-first ss (refusal-finds rs) (λ q. h (e ∙ q))))
 
 -- and where the first part has none, the second part's is
-pub first-taken : (rs ss : List Row) → Numbered rs → refusalOf rs ≡ 0 → refusalOf (rs ++ ss) ≡ refusalOf ss
-first-taken rs ss p e = finds-refusal (finds-second rs (taken-none rs p e) (refusal-finds ss))
+pub first-taken : (rs ss : List Row) {r : ℕ} → Numbered rs → refusalOf rs ≡ 0 → r ≡ refusalOf ss → r ≡ refusalOf (rs ++ ss)
+first-taken rs ss p e f = f ∙ sym (finds-refusal (finds-second rs (taken-none rs p e) (refusal-finds ss)))
 
 -- no row of either part fits: the whole table takes it
 pub both-taken : (rs ss : List Row) → NoneFits rs → NoneFits ss → refusalOf (rs ++ ss) ≡ 0

@@ -6,7 +6,7 @@ use crate::print::print_number;
 use decoder::Answer;
 use libc::STDOUT_FILENO;
 
-// Prints an answer of `decode`: 0 and the count, or the refusal.
+// Prints an answer of `decode` or `round_trip`: 0 and the count, or the refusal.
 pub(crate) fn print_answer(answer: Answer) {
     match answer {
         Answer::Count(count) => {

@@ -1,4 +1,4 @@
-// Prints rows that document 01 works by hand, as the calls give them.
+// Prints rows that document 01 works by hand, and round trips that send the frame of one of them, as the calls give them.
 mod chips;
 mod decoding;
 mod encoding;

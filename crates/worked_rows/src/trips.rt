@@ -9,7 +9,7 @@ fn print_message(symbol: u8) {
     io::write_all(STDOUT_FILENO, b"\n");
 }
 
-// Makes a round trip with this amplitude, this gain and these precisions, and prints what comes out.
+// Makes a round trip with this amplitude, this gain and these precisions, and prints the answer and the decoded message.
 fn print_trip(amplitude: u32, top: u32, bottom: u32, qc: u32, qm: u32) {
     let mut samples = [0i8; 128];
     let mut frame = [4711u16; 128];

@@ -1,4 +1,4 @@
--- `content_refusal` meets its contract: it goes down the table of what is sent and stops at the first row that fits.
+-- `content_refusal` meets its contract: it goes down the second part of the table and stops at the first row that fits.
 use mathlib.Core.Path.{_≡_, sym, _∙_}
 use mathlib.Core.List.{List}
 use Prim.Native.Nat.{ℕ}

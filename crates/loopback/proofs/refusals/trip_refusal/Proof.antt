@@ -1,4 +1,4 @@
--- `trip_refusal` meets its contract: the refusal by the sizes, and where there is none that by what is sent.
+-- `trip_refusal` meets its contract: the refusal by the first part of the table, and where there is none that by the second.
 use mathlib.Core.Path.{sym, _∙_}
 use borrow.Author.Needs.{needs}
 use Rattle.loopback.proofs.RefusalLaws.{size-refused, size-taken}

@@ -1,4 +1,4 @@
--- `sample_byte` meets its contract: a signed byte and 256 is from 128 to 383.
+-- `sample_byte` may add and cast: a signed byte and 256 is from 128 to 383.
 use mathlib.Core.Path.{_≡_, refl, sym, ap, _∙_, subst}
 use mathlib.Core.Bool.{Bool, cond}
 use Prim.Native.Nat.{ℕ, suc, _+_, _-_, _≤_}
