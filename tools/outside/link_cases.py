@@ -2,11 +2,11 @@
 taken, 97 with one damage or none, and 66 with two.
 
 A line 'l': where the call is taken 0, the count of clipped entries, how many
-numbers of the work buffer are not 0 afterwards: none; a checksum each of the
-samples, the frame and the report; and 1 where the decoded message is the
-message, else 0.  On a refusal its number, and how many entries of each of the
-six buffers have changed: none.  Where the call is taken, a line 'm' with the
-decoded message and a line 'y' with the symbols.
+numbers of the work buffer are not 0 afterwards: none; and a checksum each of
+the samples, the frame and the report.  On a refusal its number, a checksum of
+the samples, and how many entries of each of the five other buffers have
+changed: none.  Where the call is taken, a line 'm' with the decoded message and
+a line 'y' with the symbols.
 """
 
 import linking
@@ -166,7 +166,9 @@ def call_lines(call):
     """The lines of one call."""
     refusal, answer = linking.link(**call)
     if refusal != scms.ACCEPTED:
-        return [numbers_line("l", [refusal] + [0] * 6)]
+        # The samples are -7 everywhere before the call.
+        kept = checksum([-7 % 256] * call["samples_length"])
+        return [numbers_line("l", [refusal, kept] + [0] * 5)]
     numbers = [
         refusal,
         answer.count,
@@ -175,7 +177,6 @@ def call_lines(call):
         checksum([sample % 256 for sample in answer.samples]),
         checksum(answer.frame),
         checksum(answer.report),
-        1 if answer.message == call["message"] else 0,
     ]
     return [
         numbers_line("l", numbers),
@@ -208,7 +209,9 @@ def draw_damages(generator, i):
 
 def calls():
     """The arguments of all calls."""
-    generator = Generator(143)
+    # From this state the premise of the noiseless statement holds in half of the
+    # calls that are taken, and each two refusals that can fit together do so.
+    generator = Generator(646)
     for i in range(TAKEN):
         yield draw_call(generator, taken_layers(i), [0, 0])
     for i in range(ALONE + PAIRS):

@@ -91,6 +91,14 @@ fn print_refused(number: u8, work: &[u16], symbols: &[u8], report: &[u16]) {
     io::write_all(STDOUT_FILENO, b"\n");
 }
 
+// The lines of a call, by its answer.
+fn print_answer(whole: bool, answer: Answer, work: &[u16], symbols: &[u8], report: &[u16]) {
+    match answer {
+        Answer::Count(count) => print_taken(whole, count, work, symbols, report),
+        Answer::Refused(number) => print_refused(number, work, symbols, report),
+    }
+}
+
 // Decodes, and prints the lines.
 fn decode_lines(
     call: Call,
@@ -112,10 +120,7 @@ fn decode_lines(
         symbols,
         report,
     );
-    match answer {
-        Answer::Count(count) => print_taken(call.whole, count, work, symbols, report),
-        Answer::Refused(number) => print_refused(number, work, symbols, report),
-    }
+    print_answer(call.whole, answer, work, symbols, report);
 }
 
 // The same with the lengths that the damages leave, from what was drawn for n layers.

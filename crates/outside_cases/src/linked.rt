@@ -1,12 +1,10 @@
 // What `round_trip` answers and leaves, printed. A line 'l': where the call is taken 0, the count of clipped entries, how many numbers of the work buffer
-// are not 0 afterwards, a checksum each of the samples, the frame and the report, and 1 where the decoded message is the message, else 0; on a refusal its
-// number, and how many entries of each of the six buffers have changed. Where the call is taken, a line 'm' with the decoded message and a line 'y' with
-// the symbols.
+// are not 0 afterwards, and a checksum each of the samples, the frame and the report; on a refusal its number, a checksum of the samples, and how many
+// entries of each of the five other buffers have changed. Where the call is taken, a line 'm' with the decoded message and a line 'y' with the symbols.
 use crate::code::kernels;
 use crate::code::places;
 use crate::decoded::count_bytes;
 use crate::decoded::count_numbers;
-use crate::decoded::same;
 use crate::draws::front;
 use crate::draws::lent;
 use crate::draws::lent_length;
@@ -18,8 +16,6 @@ use crate::print::wide;
 use crate::sending::Call;
 use decoder::Answer;
 use libc::STDOUT_FILENO;
-ghost use Prim.Native.Nat.{_≤_};
-ghost use lib.ListN.{length};
 
 // The byte of a sample, as a number.
 fn sample_byte(x: i8) -> u64 {
@@ -53,34 +49,6 @@ fn sample_checksum(s: &[i8]) -> u64 {
     sum
 }
 
-// How many samples of a buffer have this byte.
-fn count_samples(s: &[i8], byte: u64) -> u64
-    ensures { λ r. ⌜ r ≤ length (now (s .entry)) ⌝ }
-{
-    let mut count: u64 = 0;
-    let mut i: usize = 0;
-    while i < s.len() {
-        count += same(sample_byte(s[i]), byte);
-        i += 1;
-    }
-    count
-}
-
-// 1 where two buffers hold the same bytes, else 0.
-fn same_bytes(s: &[u8], t: &[u8]) -> u64 {
-    if s.len() != t.len() {
-        return 0;
-    }
-    let mut i: usize = 0;
-    while i < s.len() {
-        if s[i] != t[i] {
-            return 0;
-        }
-        i += 1;
-    }
-    1
-}
-
 // Prints how many numbers of a buffer are not x.
 fn print_other_numbers(s: &[u16], x: u64) {
     print_number(s.len() as u64 - count_numbers(s, x));
@@ -94,7 +62,6 @@ fn print_other_bytes(s: &[u8]) {
 // The lines of a call that was taken.
 fn print_taken(
     count: u32,
-    message: &[u8],
     samples: &[i8],
     frame: &[u16],
     work: &[u16],
@@ -108,7 +75,6 @@ fn print_taken(
     print_number(sample_checksum(samples));
     print_number(checksum(frame));
     print_number(checksum(report));
-    print_number(same_bytes(message, decoded));
     io::write_all(STDOUT_FILENO, b"\nm");
     print_bytes(decoded);
     io::write_all(STDOUT_FILENO, b"\ny");
@@ -116,7 +82,7 @@ fn print_taken(
     io::write_all(STDOUT_FILENO, b"\n");
 }
 
-// The line of a call that was refused. A sample before the call has the byte 249.
+// The line of a call that was refused.
 fn print_refused(
     number: u8,
     samples: &[i8],
@@ -128,13 +94,31 @@ fn print_refused(
 ) {
     io::write_all(STDOUT_FILENO, b"l");
     print_number(number as u64);
-    print_number(samples.len() as u64 - count_samples(samples, 249));
+    print_number(sample_checksum(samples));
     print_other_numbers(frame, 4711);
     print_other_numbers(work, 4711);
     print_other_bytes(symbols);
     print_other_numbers(report, 4711);
     print_other_bytes(decoded);
     io::write_all(STDOUT_FILENO, b"\n");
+}
+
+// The lines of a call, by its answer.
+fn print_answer(
+    answer: Answer,
+    samples: &[i8],
+    frame: &[u16],
+    work: &[u16],
+    symbols: &[u8],
+    report: &[u16],
+    decoded: &[u8],
+) {
+    match answer {
+        Answer::Count(count) => print_taken(count, samples, frame, work, symbols, report, decoded),
+        Answer::Refused(number) => {
+            print_refused(number, samples, frame, work, symbols, report, decoded)
+        }
+    }
 }
 
 // Calls `round_trip`, and prints the lines.
@@ -168,23 +152,7 @@ fn trip_lines(
         report,
         decoded,
     );
-    match answer {
-        Answer::Count(count) => {
-            print_taken(
-                count,
-                message,
-                samples,
-                frame,
-                work,
-                symbols,
-                report,
-                decoded,
-            )
-        }
-        Answer::Refused(number) => {
-            print_refused(number, samples, frame, work, symbols, report, decoded)
-        }
-    }
+    print_answer(answer, samples, frame, work, symbols, report, decoded);
 }
 
 // The same with the lengths that the damages leave, from what was drawn for n layers. The message places are counted in the map as lent.

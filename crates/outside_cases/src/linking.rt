@@ -138,5 +138,5 @@ fn run_damaged(state: u64) {
 
 // Draws all cases.
 pub(crate) fn run_cases() {
-    run_damaged(run_taken(143));
+    run_damaged(run_taken(646));
 }
