@@ -76,11 +76,6 @@ pub(crate) fn lent_numbers(s: &mut [u16], n: usize) -> &mut [u16] {
     if n <= s.len() { &mut s[..n] } else { s }
 }
 
-// The first n samples of s to be written, or all where it has fewer.
-pub(crate) fn lent_samples(s: &mut [i8], n: usize) -> &mut [i8] {
-    if n <= s.len() { &mut s[..n] } else { s }
-}
-
 // The length of a slice as lent, where needed is the right one: one less for the damage short, one more for the damage after it.
 pub(crate) fn lent_length(needed: usize, d: usize, e: usize, short: usize) -> usize {
     if d == short || e == short {

@@ -6,10 +6,7 @@ use crate::code::places;
 use crate::decoded::count_bytes;
 use crate::decoded::count_numbers;
 use crate::draws::front;
-use crate::draws::lent;
 use crate::draws::lent_length;
-use crate::draws::lent_numbers;
-use crate::draws::lent_samples;
 use crate::print::print_bytes;
 use crate::print::print_number;
 use crate::print::wide;
@@ -155,36 +152,46 @@ fn trip_lines(
     print_answer(answer, samples, frame, work, symbols, report, decoded);
 }
 
-// The same with the lengths that the damages leave, from what was drawn for n layers. The message places are counted in the map as lent.
-pub(crate) fn trip_lent(
-    call: Call,
-    map: &[u8],
-    coefs: &[u8],
-    message: &[u8],
-    samples: &mut [i8],
-    frame: &mut [u16],
-    work: &mut [u16],
-    symbols: &mut [u8],
-    report: &mut [u16],
-    decoded: &mut [u8],
-) {
+// The same on buffers with the lengths that the damages leave. Before the call the samples are -7 everywhere, and the other buffers hold 4711 or 255. The
+// message places are counted in the map as lent. No length is above what its array has; the remainders say so.
+fn trip_buffers(call: Call, map: &[u8], coefs: &[u8], message: &[u8]) {
     let d = call.d;
     let e = call.e;
     let size = places(call.n) % 512;
-    let lent_map = front(map, lent_length(size, d, e, 1));
+    let count = polar::message_places(map);
+    let s = lent_length(size * 64, d, e, 45) % 16450;
+    let f = lent_length(size * 64, d, e, 5) % 16450;
+    let w = lent_length(size * 65, d, e, 7) % 16642;
+    let y = lent_length(size, d, e, 9) % 258;
+    let r = lent_length(size * 64, d, e, 11) % 16450;
+    let m = lent_length(count, d, e, 47) % 258;
+    let mut samples = [-7i8; 16449];
+    let mut frame = [4711u16; 16449];
+    let mut work = [4711u16; 16641];
+    let mut symbols = [255u8; 257];
+    let mut report = [4711u16; 16449];
+    let mut decoded = [255u8; 257];
+    trip_lines(
+        call,
+        map,
+        coefs,
+        message,
+        &mut samples[..s],
+        &mut frame[..f],
+        &mut work[..w],
+        &mut symbols[..y],
+        &mut report[..r],
+        &mut decoded[..m],
+    );
+}
+
+// And on a map, coefficients and a message with the lengths that the damages leave, from what was drawn for n layers.
+pub(crate) fn trip_drawn(call: Call, map: &[u8], coefs: &[u8], message: &[u8]) {
+    let d = call.d;
+    let e = call.e;
+    let lent_map = front(map, lent_length(places(call.n), d, e, 1));
     let lent_coefs = front(coefs, lent_length(kernels(call.n), d, e, 3));
     let count = polar::message_places(lent_map);
     let lent_message = front(message, lent_length(count, d, e, 43));
-    trip_lines(
-        call,
-        lent_map,
-        lent_coefs,
-        lent_message,
-        lent_samples(samples, lent_length(size * 64, d, e, 45)),
-        lent_numbers(frame, lent_length(size * 64, d, e, 5)),
-        lent_numbers(work, lent_length(size * 65, d, e, 7)),
-        lent(symbols, lent_length(size, d, e, 9)),
-        lent_numbers(report, lent_length(size * 64, d, e, 11)),
-        lent(decoded, lent_length(count, d, e, 47)),
-    );
+    trip_buffers(call, lent_map, lent_coefs, lent_message);
 }

@@ -13,31 +13,8 @@ use crate::draws::front;
 use crate::draws::put;
 use crate::draws::step;
 use crate::frames::draw_map;
-use crate::linked::trip_lent;
-use crate::sending::Call;
+use crate::linked::trip_drawn;
 use crate::sending::draw_call;
-
-// Calls `round_trip` on what was drawn. Before the call the samples are -7 everywhere, and the other buffers hold 4711 or 255.
-fn trip_drawn(call: Call, map: &[u8], coefs: &[u8], message: &[u8]) {
-    let mut samples = [-7i8; 16449];
-    let mut frame = [4711u16; 16449];
-    let mut work = [4711u16; 16641];
-    let mut symbols = [255u8; 257];
-    let mut report = [4711u16; 16449];
-    let mut decoded = [255u8; 257];
-    trip_lent(
-        call,
-        map,
-        coefs,
-        message,
-        &mut samples,
-        &mut frame,
-        &mut work,
-        &mut symbols,
-        &mut report,
-        &mut decoded,
-    );
-}
 
 // Damage d to a symbol of a message of `count`, at a place that the state picks.
 fn damage_message(d: usize, state: u64, count: usize, message: &mut [u8]) {
