@@ -1,4 +1,5 @@
--- The noiseless statement, which document 01 names (demand 2's second half): a message sent without noise is decoded to itself. All is said with the definitions that the promises of `encode`, `spread`, `demap` and `decode` cite, and with the samples that are sent for numbers.
+-- The noiseless statement, which document 01 names (demand 2's second half): a message sent without noise is decoded to itself. All is said with the
+-- definitions that the promises of `encode`, `spread`, `demap` and `decode` cite, and with the samples that are sent for numbers.
 use Prim.Native.Nat.{ℕ, _*_, _^_, _≤_, _<_}
 use mathlib.Core.Path.{_≡_}
 use mathlib.Core.List.{List}
