@@ -5,6 +5,7 @@ use mathlib.Core.Bool.{cond}
 use mathlib.Core.List.{List, [], _∷_}
 use lib.Dec.{eqb}
 use lib.ListN.{replicate}
+use Rattle.refusal.specs.Returned.{Returned}
 use Rattle.vector.specs.Vector.{vectorAt}
 use Rattle.scms.specs.Decoder as scms
 use Rattle.scms.specs.Totals.{FrozenFirst, Unclipped}
@@ -12,12 +13,6 @@ use Rattle.scms.specs.Claims.{CountZero, LeastTotals, Decided, BestWord}
 use Rattle.decoder.specs.declared.decoder.Answer.{Answer}
 use Rattle.decoder.specs.declared.decoder.Answer.the-variants.{Count, Refused}
 use Rattle.decoder_refusal.specs.Refusals.{decodeRefusal}
-
--- an answer in document 01's terms: the number returned, and the values beside the buffers. The number is 0, which no row of the table has,
--- where the frame was decoded
-pub record Returned : Type 0 where
-  pub number : ℕ
-  pub values : List ℕ
 
 -- the number and the values for each case of the answer: a decoded frame has the count of clipped entries, a refusal its number (for `decode` one of the
 -- table 'Refused') and no value

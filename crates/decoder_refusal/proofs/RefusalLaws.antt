@@ -10,14 +10,17 @@ use borrow.Author.Count.{below-none, below-more}
 use borrow.Author.Tests.{eq-eqb, ne-eqb, eqb-true}
 use lib.Dec.{eqb, lit<}
 use lib.ListN.{length, getD}
-use Rattle.refusal.specs.Table.{refusalOf, Numbered}
-use Rattle.refusal.proofs.Laws.{taken-none, first-refused, first-taken, both-taken, taken-both}
-use Rattle.refusal.proofs.Within.{or-left, or-right, or-true-right, inside-within, within-inside, none-within, within-none, false-equal, equal-false}
+use Rattle.refusal.specs.Tests.{anyTo, Within}
+use Rattle.refusal.specs.Table.{refusalOf, OneOf, Numbered}
+use Rattle.refusal.proofs.Laws.{taken-none, first-refused, first-taken, both-taken, taken-both, refusal-has}
+use Rattle.refusal.proofs.AnyTo.{any-there, none-there, each-not}
+use Rattle.refusal.proofs.Within.{not-both, or-left, or-right, or-true-right, inside-within, within-inside, none-within, within-none, false-equal, equal-false}
 use Rattle.vector.specs.Vector.{vectorAt}
 use Rattle.vector.specs.Frame.{IsFrame}
 use Rattle.vector.proofs.SliceLaws.{vector-long, vector-entry}
+use Rattle.polar.specs.Code.{IsCode}
 use Rattle.polar.proofs.CodeLaws.{rows-code, code-sizes, code-bytes}
-use Rattle.decoder_refusal.specs.Refusals.{noZero, anyTo, llrsRow, zerosRow, sizeTable, contentTable, decodeRefusal, Decodable}
+use Rattle.decoder_refusal.specs.Refusals.{noZero, llrsRow, zerosRow, sizeTable, contentTable, decodeTable, decodeRefusal, Decodable}
 
 -- ---- lists with no 0
 
@@ -50,34 +53,6 @@ some-zero (x ∷ xs) e = go (eqb x 0) refl e (some-zero xs)
         → (b : ℕ) × (b < suc (length xs)) × (getD (x ∷ xs) b 0 ≡ 0)
     go true q f ih = (0, zero-lt-suc (length xs), eqb-true x 0 q)
     go false q f ih = let p = ih f in let l = p .1 in (suc (p .0), omega arith, p .2)
-
--- ---- tests by index
-module _ (f : ℕ → Bool) where
-  -- one of them fits
-  any-there : (n i : ℕ) → i < n → f i ≡ true → anyTo n f ≡ true
-  unfolding anyTo
-  any-there zero i l e = absurd (not-suc-le-zero l)
-  any-there (suc n) i l e = go (any-there n i) (eq-or-lt-of-le (le-of-suc-le-suc l))
-    where
-      go : (i < n → f i ≡ true → anyTo n f ≡ true) → (i ≡ n) ⊎ (i < n) → anyTo n f || f n ≡ true
-      go ih (inl q) = or-true-right (anyTo n f) (sym (ap f q) ∙ e)
-      go ih (inr s) = ap (λ (t : Bool). t || f n) (ih s e)
-
-  -- none does
-  none-there : (n : ℕ) → ((i : ℕ) → i < n → f i ≡ false) → anyTo n f ≡ false
-  unfolding anyTo
-  none-there zero h = refl
-  none-there (suc n) h = ap₂ (λ (s t : Bool). s || t) (none-there n (λ i l. h i (omega arith))) (h n (le-refl (suc n)))
-
-  -- where none does, each does not
-  each-not : (n : ℕ) → anyTo n f ≡ false → (i : ℕ) → i < n → f i ≡ false
-  unfolding anyTo
-  each-not zero e i l = absurd (not-suc-le-zero l)
-  each-not (suc n) e i l = go (each-not n (or-left (anyTo n f) (f n) e) i) (eq-or-lt-of-le (le-of-suc-le-suc l))
-    where
-      go : (i < n → f i ≡ false) → (i ≡ n) ⊎ (i < n) → f i ≡ false
-      go ih (inl q) = ap f q ∙ or-right (anyTo n f) (f n) e
-      go ih (inr s) = ih s
 
 -- ---- the vectors of a frame
 module _ (frame : List ℕ) where
@@ -228,3 +203,101 @@ module _ (n : ℕ) (map cs : List ℕ) (qc qm : ℕ) (frame work symbols report 
       both-taken (sizeTable n map cs frame work symbols report) (contentTable (2 ^ n) map cs qc qm frame)
       (sizes .0, (sizes .1 .0, (sizes .1 .1 .0, (frame-room, (work-room, (symbols-room, (report-room, tt)))))))
       (qc-fits, (qm-fits, (bytes .0, (bytes .1 .0, (bytes .1 .1 .0, (small, (zeros, tt)))))))
+
+-- ---- the numbers that are left for a code
+
+-- a row that does not fit asks for nothing
+skip : {t : Bool} {A : Type 0} → t ≡ false → t ≡ true → A
+skip e f = absurd (not-both e f)
+
+module _ (n : ℕ) (map cs : List ℕ) (qc qm : ℕ) (frame work symbols report : List ℕ) (code : IsCode n map cs) where
+  -- a code is not refused by 1, 4, 5 or 6, whatever else the call is given
+  pub code-numbers : OneOf (decodeRefusal n map cs qc qm frame work symbols report) (0 ∷ 2 ∷ 3 ∷ 8 ∷ 9 ∷ [])
+  unfolding decodeRefusal
+  code-numbers =
+      let sizes = code-sizes n map cs code in
+      let bytes = code-bytes n map cs code in
+      let two : OneOf 2 (0 ∷ 2 ∷ 3 ∷ 8 ∷ 9 ∷ []) = inr (inl refl) in
+      let three : OneOf 3 (0 ∷ 2 ∷ 3 ∷ 8 ∷ 9 ∷ []) = inr (inr (inl refl)) in
+      refusal-has (λ k. OneOf k (0 ∷ 2 ∷ 3 ∷ 8 ∷ 9 ∷ [])) (inl refl) (decodeTable n map cs qc qm frame work symbols report) (
+        skip (sizes .0),
+        (
+          (λ e. two),
+          (
+            (λ e. two),
+            (
+              (λ e. two),
+              (
+                (λ e. two),
+                (
+                  (λ e. two),
+                  (
+                    (λ e. two),
+                    (
+                      (λ e. three),
+                      (
+                        (λ e. three),
+                        (
+                          skip (bytes .0),
+                          (
+                            skip (bytes .1 .0),
+                            (
+                              skip (bytes .1 .1 .0),
+                              ((λ e. inr (inr (inr (inl refl)))), ((λ e. inr (inr (inr (inr (inl refl))))), tt)),
+                            ),
+                          ),
+                        ),
+                      ),
+                    ),
+                  ),
+                ),
+              ),
+            ),
+          ),
+        ),
+      )
+
+  -- with lengths and precisions that are right, only 8 and 9 are left
+  pub frame-numbers : length frame ≡ 64 * 2 ^ n → length work ≡ 65 * 2 ^ n → length symbols ≡ 2 ^ n → length report ≡ 64 * 2 ^ n
+      → Within 1 5 qc → Within qc 13 qm → OneOf (decodeRefusal n map cs qc qm frame work symbols report) (0 ∷ 8 ∷ 9 ∷ [])
+  unfolding decodeRefusal
+  frame-numbers lf lw ls lr c m =
+      let sizes = code-sizes n map cs code in
+      let bytes = code-bytes n map cs code in
+      refusal-has (λ k. OneOf k (0 ∷ 8 ∷ 9 ∷ [])) (inl refl) (decodeTable n map cs qc qm frame work symbols report) (
+        skip (sizes .0),
+        (
+          skip (sizes .1 .0),
+          (
+            skip (sizes .1 .1 .0),
+            (
+              skip (equal-false _ _ lf),
+              (
+                skip (equal-false _ _ lw),
+                (
+                  skip (equal-false _ _ ls),
+                  (
+                    skip (equal-false _ _ lr),
+                    (
+                      skip (within-inside 1 5 qc c),
+                      (
+                        skip (within-inside qc 13 qm m),
+                        (
+                          skip (bytes .0),
+                          (
+                            skip (bytes .1 .0),
+                            (
+                              skip (bytes .1 .1 .0),
+                              ((λ e. inr (inl refl)), ((λ e. inr (inr (inl refl))), tt)),
+                            ),
+                          ),
+                        ),
+                      ),
+                    ),
+                  ),
+                ),
+              ),
+            ),
+          ),
+        ),
+      )

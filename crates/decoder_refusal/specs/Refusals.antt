@@ -1,12 +1,12 @@
 -- By which number of document 01's table 'Refused' a call of `decode` is refused.
-use Prim.Native.Nat.{ℕ, zero, suc, _*_, _/_, _-_, _^_}
+use Prim.Native.Nat.{ℕ, _*_, _/_, _-_, _^_}
 use mathlib.Core.Path.{_≡_}
-use mathlib.Core.Bool.{Bool, true, false, not, _&&_, _||_}
+use mathlib.Core.Bool.{Bool, true, not, _&&_}
 use mathlib.Core.List.{List, [], _∷_, _++_}
 use lib.Dec.{eqb}
 use lib.ListN.{length}
 use Rattle.refusal.specs.Table.{Row, refusalOf}
-use Rattle.refusal.specs.Tests.{outside, anyOutside, Within}
+use Rattle.refusal.specs.Tests.{outside, anyOutside, anyTo, Within}
 use Rattle.refusal.specs.Rows.{lengthRow, qcRow}
 use Rattle.vector.specs.Vector.{vectorAt}
 use Rattle.vector.specs.Frame.{IsFrame}
@@ -16,11 +16,6 @@ use Rattle.polar.specs.Code.{layersRow, mapRow, emptyRow, coefsRow, IsCode}
 unfoldable pub noZero : List ℕ → Bool
 noZero [] = true
 noZero (x ∷ xs) = not (eqb x 0) && noZero xs
-
--- one of the tests f 0, f 1, .., f (n − 1) fits
-unfoldable pub anyTo : ℕ → (ℕ → Bool) → Bool
-anyTo zero f = false
-anyTo (suc n) f = anyTo n f || f n
 
 -- 3: Qm below Qc or above 13
 abbrev pub qmRow : (qc qm : ℕ) → Row
@@ -33,6 +28,10 @@ llrsRow qc frame = (8, anyOutside 0 (2 ^ qc - 1) frame)
 -- 9: the 64 penalties of one of the N symbols hold no zero
 abbrev pub zerosRow : (places : ℕ) → List ℕ → Row
 zerosRow places frame = (9, anyTo places (λ i. noZero (vectorAt frame i)))
+
+-- the two rows on the penalties of a frame, the largest penalty being `most`
+abbrev pub penaltyTable : (most : ℕ) → List ℕ → List Row
+penaltyTable most frame = (8, anyOutside 0 most frame) ∷ zerosRow (length frame / 64) frame ∷ []
 
 -- the rows of document 01's table that `decode` has the input for, in its order: first those on n and the lengths
 abbrev pub sizeTable : (n : ℕ) (map cs frame work symbols report : List ℕ) → List Row

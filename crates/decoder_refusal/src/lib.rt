@@ -2,3 +2,4 @@
 mod refusals;
 
 pub use refusals::decode_refusal;
+pub use refusals::frame_refusal;

@@ -3,9 +3,9 @@ ghost use mathlib.Core.Path.{_≡_};
 ghost use Prim.Native.Nat.{_/_};
 ghost use lib.ListN.{length};
 ghost use Rattle.refusal.specs.Table.{refusalOf};
-ghost use Rattle.refusal.specs.Tests.{anyOutside};
+ghost use Rattle.refusal.specs.Tests.{anyOutside, anyTo};
 ghost use Rattle.vector.specs.Vector.{vectorAt};
-ghost use Rattle.decoder_refusal.specs.Refusals.{noZero, anyTo, sizeTable, contentTable, decodeRefusal};
+ghost use Rattle.decoder_refusal.specs.Refusals.{noZero, penaltyTable, sizeTable, contentTable, decodeRefusal};
 
 // Whether some number of the frame is above `most`.
 fn any_above(frame: &[u16], most: u16) -> bool
@@ -35,6 +35,19 @@ fn any_without_zero(frame: &[u16]) -> bool
         return true;
     }
     false
+}
+
+// The number by which a frame's penalties are refused, for any slice: 8 where one is above `most`, else 9 where the 64 of one symbol hold no zero,
+// and 0 where neither fits. Numbers after the last whole vector of 64 count for 8 alone. Both tests are made: a frame that is accepted needs both.
+pub fn frame_refusal(frame: &[u16], most: u16) -> u8
+    ensures { λ r. ⌜ r ≡ refusalOf (penaltyTable most (now (frame .entry))) ⌝ }
+{
+    let above = any_above(frame, most);
+    let without_zero = any_without_zero(frame);
+    if above {
+        return 8;
+    }
+    if without_zero { 9 } else { 0 }
 }
 
 // The refusal by n and the lengths, 0 where none of them is wrong.
@@ -91,12 +104,7 @@ fn content_refusal(map: &[u8], coefs: &[u8], qc: u32, qm: u32, frame: &[u16]) ->
     if by_code != 0 {
         return by_code;
     }
-    let above = any_above(frame, vector::largest(qc));
-    let without_zero = any_without_zero(frame);
-    if above {
-        return 8;
-    }
-    if without_zero { 9 } else { 0 }
+    frame_refusal(frame, vector::largest(qc))
 }
 
 // The number by which `decode` refuses, 0 where it takes its input: the first test that fits, in document 01's order.

@@ -10,7 +10,8 @@ use Rattle.polar.specs.Encode.{wordBefore}
 use Rattle.polar.specs.Message.{messageOf}
 use Rattle.scms.specs.Decoder as scms
 use Rattle.decoder.specs.declared.decoder.Answer.{Answer}
-use Rattle.decoder.specs.Decode.{Returned, returned, Decoded}
+use Rattle.refusal.specs.Returned.{Returned}
+use Rattle.decoder.specs.Decode.{returned, Decoded}
 use Rattle.link.specs.Noiseless.{messageSamples, messageFrame, NoiselessPremise}
 use Rattle.loopback.specs.Refusals.{tripRefusal}
 

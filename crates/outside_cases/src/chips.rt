@@ -1,24 +1,10 @@
-// The cases of spreading and of weighing, and what they share: a base, a count of symbols, numbers as given after damage, and how a line
+// The cases of spreading and of weighing, and what they share: a damaged base, a count of symbols, numbers as given after damage, and how a line
 // is printed.
-use crate::draws::step;
 use crate::print::print_number;
 use crate::spreading::spread_case;
 use crate::weighing::demap_case;
 use libc::STDOUT_FILENO;
 ghost use Prim.Native.Nat.{_≤_};
-
-// A base drawn from a state.
-pub(crate) fn drawn_base(state: u64) -> u64 {
-    let a = step(state);
-    let b = step(a);
-    let c = step(b);
-    ((a >> 16) << 48) | ((b >> 16) << 32) | ((c >> 16) << 16) | (step(c) >> 16)
-}
-
-// The state after a base was drawn.
-pub(crate) fn after_base(state: u64) -> u64 {
-    step(step(step(step(state))))
-}
 
 // The base with its lower 32 chips twice: it is equal to itself turned by 32 chips.
 pub(crate) fn halves_alike(base: u64) -> u64 {

@@ -1,34 +1,6 @@
-// The map and the coefficients of a code with n layers: how many bytes they have, and damage to them.
-use crate::draws::drawn;
-use crate::draws::put;
-
-// The number of places that the inputs are made for: those of n layers, or of 2 layers for an n that is to be refused.
-pub(crate) fn places(n: usize) -> usize {
-    match n {
-        1 => 2,
-        3 => 8,
-        4 => 16,
-        5 => 32,
-        6 => 64,
-        7 => 128,
-        8 => 256,
-        _ => 4,
-    }
-}
-
-// And the number of kernels.
-pub(crate) fn kernels(n: usize) -> usize {
-    match n {
-        1 => 1,
-        3 => 12,
-        4 => 32,
-        5 => 80,
-        6 => 192,
-        7 => 448,
-        8 => 1024,
-        _ => 4,
-    }
-}
+// Damage to the map and the coefficients of a code, and to the lengths of slices as lent.
+use draws::drawn;
+use draws::put;
 
 // Damage to a byte of the map or of the coefficients, at a place that the state picks: damage number `first` puts 2 into the map, those after
 // it 255 into the map, and 0, 64 and 255 into the coefficients. Other numbers do nothing.
@@ -52,4 +24,19 @@ pub(crate) fn damage_code(
         4 => put(coefs, drawn(state, count), 255),
         _ => {}
     }
+}
+
+// The length of a slice as lent, where needed is the right one: one less for the damage short, one more for the damage after it.
+pub(crate) fn lent_length(needed: usize, d: usize, e: usize, short: usize) -> usize {
+    if d == short || e == short {
+        if needed == 0 {
+            return 0;
+        }
+        return needed - 1;
+    }
+    let long = short % 64 + 1;
+    if d == long || e == long {
+        return needed % 65536 + 1;
+    }
+    needed
 }

@@ -2,11 +2,11 @@
 // symbols, report), 13 to 15 Qc, 16 to 18 Qm, 19 to 23 a byte of the map or of the coefficients, 24 all places frozen, 25 and 26 a penalty too
 // large, 27 to 29 a vector with no zero. Other numbers do nothing. Those up to 24 are damages to a call of the whole chain too.
 use crate::code::damage_code;
-use crate::code::kernels;
-use crate::code::places;
-use crate::draws::drawn;
-use crate::draws::fill;
-use crate::draws::put_number;
+use crate::frames::put_number;
+use draws::drawn;
+use draws::fill;
+use draws::kernels;
+use draws::places;
 
 // The damage that a state picks: those to contents twice as often as those to lengths and precisions.
 pub(crate) fn drawn_damage(state: u64) -> usize {

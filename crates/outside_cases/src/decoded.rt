@@ -1,18 +1,18 @@
 // What `decode` answers and leaves, printed. A line 'c': where the call is taken 0, the count of clipped entries, and how many numbers of the
 // work buffer are not 0 afterwards; on a refusal its number, and how many numbers of the work buffer, bytes of the symbols and numbers of the
 // report are as they came. Where the call is taken, a line 'y' with the symbols, and where `whole` is set a line 'r' with the report.
-use crate::code::kernels;
-use crate::code::places;
-use crate::draws::front;
-use crate::draws::front_numbers;
-use crate::draws::lent;
-use crate::draws::lent_length;
-use crate::draws::lent_numbers;
+use crate::code::lent_length;
 use crate::print::print_bytes;
 use crate::print::print_number;
 use crate::print::print_numbers;
 use crate::print::wide;
 use decoder::Answer;
+use draws::front;
+use draws::front_numbers;
+use draws::kernels;
+use draws::lent;
+use draws::lent_numbers;
+use draws::places;
 use libc::STDOUT_FILENO;
 ghost use Prim.Native.Nat.{_≤_};
 ghost use lib.ListN.{length};
@@ -28,7 +28,7 @@ pub(crate) struct Call {
 }
 
 // 1 where two numbers are the same, else 0.
-pub(crate) fn same(x: u64, y: u64) -> u64
+fn same(x: u64, y: u64) -> u64
     ensures { λ r. ⌜ r ≤ 1 ⌝ }
 {
     if x == y { 1 } else { 0 }

@@ -1,6 +1,4 @@
 // `decode` on pseudo-random inputs: frames that are taken, of each length, calls with one damage or none, and calls with up to two.
-use crate::code::kernels;
-use crate::code::places;
 use crate::damages::damage_bytes;
 use crate::damages::damage_frame;
 use crate::damages::drawn_damage;
@@ -8,15 +6,17 @@ use crate::damages::given_qc;
 use crate::damages::given_qm;
 use crate::decoded::Call;
 use crate::decoded::decode_lent;
-use crate::draws::draw_bytes;
-use crate::draws::drawn;
-use crate::draws::drawn_number;
-use crate::draws::step;
 use crate::frames::draw_frame;
-use crate::frames::draw_map;
 use crate::frames::draw_word;
 use crate::frames::drawn_qm;
 use crate::frames::largest;
+use draws::draw_bytes;
+use draws::draw_map;
+use draws::drawn;
+use draws::drawn_number;
+use draws::kernels;
+use draws::places;
+use draws::step;
 
 // Decodes what was drawn. The three buffers hold 4711 or 255 everywhere before the call.
 fn decode_drawn(call: Call, map: &[u8], coefs: &[u8], frame: &[u16]) {

@@ -1,16 +1,16 @@
 // The encoder on pseudo-random inputs, valid and damaged: for each a line with the answer of `encode` and the buffer lent for the codeword.
 use crate::code::damage_code;
-use crate::code::kernels;
-use crate::code::places;
-use crate::draws::draw_bytes;
-use crate::draws::drawn;
-use crate::draws::fill;
-use crate::draws::front;
-use crate::draws::lent;
-use crate::draws::lent_length;
-use crate::draws::put;
-use crate::draws::step;
+use crate::code::lent_length;
 use crate::print::print_bytes;
+use draws::draw_bytes;
+use draws::drawn;
+use draws::fill;
+use draws::front;
+use draws::kernels;
+use draws::lent;
+use draws::places;
+use draws::put;
+use draws::step;
 use libc::STDOUT_FILENO;
 
 // Damage d to the bytes of the map, the coefficients or the message, at a place that the state picks; most d do nothing.

@@ -1,30 +1,16 @@
-// What a frame is drawn from: a map with at least one message place, a word of the code, the precisions; and the frame's penalties.
-use crate::code::kernels;
-use crate::code::places;
-use crate::draws::draw_bytes;
-use crate::draws::drawn;
-use crate::draws::drawn_number;
-use crate::draws::fill;
-use crate::draws::front;
-use crate::draws::put;
-use crate::draws::put_number;
-use crate::draws::step;
+// What a frame is drawn from: a word of the code and the precisions; and the frame's penalties.
+use draws::draw_bytes;
+use draws::drawn;
+use draws::drawn_number;
+use draws::front;
+use draws::kernels;
+use draws::places;
+use draws::step;
 
-// Draws a map of `size` places, where there were zeros, and returns the state after that: all message places, frozen places first, or any.
-pub(crate) fn draw_map(state: u64, map: &mut [u8], size: usize) -> u64 {
-    let a = step(state);
-    let b = step(a);
-    match drawn(a, 4) {
-        0 => b,
-        1 => {
-            fill(map, drawn(b, size), 1);
-            b
-        }
-        _ => {
-            let c = draw_bytes(b, map, size, 0, 2);
-            put(map, drawn(b, size), 0);
-            c
-        }
+// Stores a number, where there is room for it.
+pub(crate) fn put_number(s: &mut [u16], at: usize, x: usize) {
+    if at < s.len() {
+        s[at] = (x % 65536) as u16;
     }
 }
 

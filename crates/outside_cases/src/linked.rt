@@ -1,38 +1,23 @@
 // What `round_trip` answers and leaves, printed. A line 'l': where the call is taken 0, the count of clipped entries, how many numbers of the work buffer
 // are not 0 afterwards, and a checksum each of the samples, the frame and the report; on a refusal its number, a checksum of the samples, and how many
 // entries of each of the five other buffers have changed. Where the call is taken, a line 'm' with the decoded message and a line 'y' with the symbols.
-use crate::code::kernels;
-use crate::code::places;
+use crate::code::lent_length;
 use crate::decoded::count_bytes;
 use crate::decoded::count_numbers;
-use crate::draws::front;
-use crate::draws::lent_length;
 use crate::print::print_bytes;
 use crate::print::print_number;
-use crate::print::wide;
 use crate::sending::Call;
 use decoder::Answer;
+use draws::checksum;
+use draws::checksum_with;
+use draws::front;
+use draws::kernels;
+use draws::places;
 use libc::STDOUT_FILENO;
 
 // The byte of a sample, as a number.
 fn sample_byte(x: i8) -> u64 {
     (x as i16 + 256) as u64 % 256
-}
-
-// A checksum with one more number.
-fn checksum_with(sum: u64, x: u64) -> u64 {
-    (sum % 65521 * 31 + x % 65536) % 65521
-}
-
-// The checksum of the numbers of a buffer: it depends on each and on its place.
-fn checksum(s: &[u16]) -> u64 {
-    let mut sum: u64 = 1;
-    let mut i: usize = 0;
-    while i < s.len() {
-        sum = checksum_with(sum, wide(s[i]));
-        i += 1;
-    }
-    sum
 }
 
 // The same of the bytes of samples.

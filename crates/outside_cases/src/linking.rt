@@ -1,20 +1,20 @@
 // `round_trip` on pseudo-random inputs: calls that are taken, of each length, calls with one damage or none, and calls with two. The damages 1 to 24 are
 // those to a call of the decoder; 25 and 26 are to the base, 27 and 28 to a symbol of the message, 29 to 31 to n, 32 to 35 to the amplitude, 36 to 41
 // to the gain, 42 to Qm, and 43 to 48 a lent length one too short or one too long (message, samples, decoded message).
-use crate::code::kernels;
-use crate::code::places;
 use crate::damages::damage_bytes;
 use crate::damages::given_three;
 use crate::decoding::layers_of;
-use crate::draws::draw_bytes;
-use crate::draws::drawn;
-use crate::draws::drawn_number;
-use crate::draws::front;
-use crate::draws::put;
-use crate::draws::step;
-use crate::frames::draw_map;
 use crate::linked::trip_drawn;
 use crate::sending::draw_call;
+use draws::draw_bytes;
+use draws::draw_map;
+use draws::drawn;
+use draws::drawn_number;
+use draws::front;
+use draws::kernels;
+use draws::places;
+use draws::put;
+use draws::step;
 
 // Damage d to a symbol of a message of `count`, at a place that the state picks.
 fn damage_message(d: usize, state: u64, count: usize, message: &mut [u8]) {

@@ -5,7 +5,6 @@ mod code;
 mod damages;
 mod decoded;
 mod decoding;
-mod draws;
 mod encoding;
 mod frames;
 mod linked;

@@ -1,16 +1,16 @@
 // The numbers of a call of the whole chain: the base, the amplitude, the gain and the precisions, drawn, and as given after two damages.
-use crate::chips::after_base;
 use crate::chips::damaged_base;
-use crate::chips::drawn_base;
 use crate::chips::halves_alike;
 use crate::damages::given;
 use crate::damages::given_qc;
 use crate::damages::given_qm;
 use crate::damages::given_three;
-use crate::draws::drawn;
-use crate::draws::drawn_number;
-use crate::draws::step;
 use crate::frames::drawn_qm;
+use draws::after_base;
+use draws::drawn;
+use draws::drawn_base;
+use draws::drawn_number;
+use draws::step;
 
 // The numbers of a call as given: layers, base, amplitude, gain, precisions; two damages; and the state after what was drawn.
 pub(crate) struct Call {

@@ -1,18 +1,18 @@
 // `spread` on pseudo-random inputs, valid and damaged: for each a line 's', the answer and the numbers sent, or on a refusal how many numbers
 // of the lent buffer are as they came.
-use crate::chips::after_base;
 use crate::chips::damaged_base;
-use crate::chips::drawn_base;
 use crate::chips::print_end;
 use crate::chips::print_entry;
 use crate::chips::symbol_count;
-use crate::draws::draw_bytes;
-use crate::draws::drawn;
-use crate::draws::front;
-use crate::draws::lent_length;
-use crate::draws::put;
-use crate::draws::step;
+use crate::code::lent_length;
 use crate::print::print_number;
+use draws::after_base;
+use draws::draw_bytes;
+use draws::drawn;
+use draws::drawn_base;
+use draws::front;
+use draws::put;
+use draws::step;
 use libc::STDOUT_FILENO;
 
 // Spreads into a buffer, and prints the line.

@@ -1,19 +1,20 @@
 // `demap` on pseudo-random inputs, valid and damaged: for each a line 'd' as for `spread`, and a line 'p' with the part that `place_llrs` hands out
 // of the lent buffer.
-use crate::chips::after_base;
 use crate::chips::damaged_base;
 use crate::chips::damaged_number;
-use crate::chips::drawn_base;
 use crate::chips::print_end;
 use crate::chips::print_entry;
 use crate::chips::symbol_count;
-use crate::draws::drawn;
-use crate::draws::drawn_number;
-use crate::draws::lent_length;
-use crate::draws::step;
+use crate::code::lent_length;
 use crate::print::print_number;
 use crate::print::print_numbers;
 use crate::print::wide;
+use draws::after_base;
+use draws::drawn;
+use draws::drawn_base;
+use draws::drawn_number;
+use draws::put_sample;
+use draws::step;
 use libc::STDOUT_FILENO;
 
 // Prints the part of one place.
@@ -59,23 +60,6 @@ fn sample_bits(mode: usize, state: u64, chip: u64, amplitude: usize) -> usize {
             }
         }
         _ => 127 + drawn(state, 4) % 4,
-    }
-}
-
-// The signed byte with these bits.
-fn signed(bits: usize) -> i8 {
-    let byte = bits % 256;
-    if byte < 128 {
-        byte as i8
-    } else {
-        (byte as i16 - 256) as i8
-    }
-}
-
-// Stores a sample by its bits, where there is room for it.
-fn put_sample(s: &mut [i8], at: usize, bits: usize) {
-    if at < s.len() {
-        s[at] = signed(bits);
     }
 }
 

@@ -10,3 +10,4 @@ pub mod JoinLaws
 pub mod BlockLaws
 pub mod CodeLaws
 pub mod EncodeLaws
+pub mod SizeLaws

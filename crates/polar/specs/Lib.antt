@@ -6,3 +6,4 @@ pub mod Tree
 pub mod Halves
 pub mod Parts
 pub mod Join
+pub mod Sizes

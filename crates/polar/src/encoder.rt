@@ -2,18 +2,10 @@
 use crate::code::code_refusal;
 use crate::places::message_places;
 use crate::places::place_message;
+use crate::sizes::place_count;
 use crate::transform::transform_block;
 ghost use mathlib.Core.Path.{_≡_};
-ghost use Prim.Native.Nat.{_^_, _≤_};
 ghost use Rattle.polar.specs.Encode.{encodeRefusal, Encoded};
-
-// The number of places of a word with n layers.
-fn word_length(n: usize) -> usize
-    requires { ⌜ n ≤ 8 ⌝ }
-    ensures { λ r. ⌜ r ≡ 2 ^ n ⌝ }
-{
-    1 << n
-}
 
 // The number by which `encode` refuses, 0 where it takes its input: the first test that fits, in document 01's order.
 fn encode_refusal(n: usize, map: &[u8], coefs: &[u8], message: &[u8], codeword: &[u8]) -> u8
@@ -25,7 +17,7 @@ fn encode_refusal(n: usize, map: &[u8], coefs: &[u8], message: &[u8], codeword: 
     if 8 < n {
         return 1;
     }
-    let size = word_length(n);
+    let size = place_count(n);
     if map.len() != size {
         return 2;
     }

@@ -1,12 +1,13 @@
 -- The laws of a refusal table: a refusal is the number of the first row that fits, and a call is taken exactly when no row does.
 use mathlib.Core.Path.{_≡_, refl, sym, ap, _∙_, subst}
+use mathlib.Core.Logic.{inl, inr}
 use mathlib.Core.Bool.{Bool, true, false, cond}
 use mathlib.Core.List.{List, [], _∷_, _++_}
 use Prim.Native.Nat.{ℕ}
 use native.Mathlib.Omega.{arith}
 use borrow.Author.Tests.{eq-eqb, ne-eqb}
 use lib.Dec.{eqb}
-use Rattle.refusal.specs.Table.{Row, refusalOf, NoneFits, Numbered}
+use Rattle.refusal.specs.Table.{Row, refusalOf, OneOf, NoneFits, Numbered}
 
 -- the walk down the table that ends at k: past each row that does not fit, to the first that does or to the end
 pub data Finds : List Row → ℕ → Type 0 where
@@ -94,6 +95,17 @@ refusal-has P z rs = walked (refusal-finds rs)
     walked none h = z
     walked (here q) h = h .0 q
     walked (later q w) h = walked w (h .1)
+
+-- each of some numbers is one of others
+abbrev pub EachOf : List ℕ → List ℕ → Type 0
+EachOf [] ms = Unit {0}
+EachOf (k ∷ ks) ms = OneOf k ms × EachOf ks ms
+
+-- a number of one list is one of another, if each of the first is
+pub among : (r : ℕ) (ks ms : List ℕ) → EachOf ks ms → OneOf r ks → OneOf r ms
+among r [] ms e o = absurd o
+among r (k ∷ ks) ms e (inl q) = subst (λ (x : ℕ). OneOf x ms) (sym q) (e .0)
+among r (k ∷ ks) ms e (inr o) = among r ks ms (e .1) o
 
 -- what a call leaves, by its answer r
 module _ {A : Type 0} (r : ℕ) (made kept : A) where

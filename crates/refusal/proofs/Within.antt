@@ -12,6 +12,13 @@ use lib.ListN.{length, getD, drop}
 use lib.Seq.{drop-cons}
 use Rattle.refusal.specs.Tests.{outside, anyOutside, unequal, Within}
 
+-- no test both holds and does not
+pub true-false : true ≡ false → ⊥
+true-false e = let z : _≡_ {A = ℕ} 0 1 = cc in absurd (omega arith)
+
+pub not-both : {t : Bool} → t ≡ false → t ≡ true → ⊥
+not-both e f = true-false (sym f ∙ e)
+
 -- neither holds, so the first does not
 pub or-left : (a b : Bool) → a || b ≡ false → a ≡ false
 or-left true b e = e

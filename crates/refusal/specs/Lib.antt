@@ -1,3 +1,4 @@
 pub mod Tests
 pub mod Table
 pub mod Rows
+pub mod Returned

@@ -1,6 +1,7 @@
 -- A call's refusals as a table: rows of a number and a test, in the order in which they are tried.
 use Prim.Native.Nat.{ℕ, _<_}
 use mathlib.Core.Path.{_≡_}
+use mathlib.Core.Logic.{_⊎_}
 use mathlib.Core.Bool.{Bool, false, cond}
 use mathlib.Core.List.{List, [], _∷_}
 
@@ -12,6 +13,11 @@ Row = ℕ × Bool
 unfoldable pub refusalOf : List Row → ℕ
 refusalOf [] = 0
 refusalOf (r ∷ rs) = cond (r .1) (r .0) (refusalOf rs)
+
+-- the number is one of these
+abbrev pub OneOf : ℕ → List ℕ → Type 0
+OneOf r [] = ⊥
+OneOf r (k ∷ ks) = (r ≡ k) ⊎ OneOf r ks
 
 -- no row's test fits
 abbrev pub NoneFits : List Row → Type 0

@@ -1,5 +1,5 @@
 -- Tests that several calls make of what they are lent.
-use Prim.Native.Nat.{ℕ, _≤_}
+use Prim.Native.Nat.{ℕ, zero, suc, _≤_}
 use mathlib.Core.Bool.{Bool, false, not, _||_}
 use mathlib.Core.List.{List, [], _∷_}
 use lib.Dec.{ltb, eqb}
@@ -12,6 +12,11 @@ outside low high x = ltb x low || ltb high x
 unfoldable pub anyOutside : ℕ → ℕ → List ℕ → Bool
 anyOutside low high [] = false
 anyOutside low high (x ∷ xs) = outside low high x || anyOutside low high xs
+
+-- one of the tests f 0, f 1, .., f (n − 1) fits
+unfoldable pub anyTo : ℕ → (ℕ → Bool) → Bool
+anyTo zero f = false
+anyTo (suc n) f = anyTo n f || f n
 
 -- the two numbers are not equal
 unfoldable pub unequal : ℕ → ℕ → Bool

@@ -1,17 +1,16 @@
 -- `content_refusal` meets its contract: it goes down the table of what the slices hold and stops at the first row that fits.
-use mathlib.Core.Path.{_≡_, sym, ap, _∙_}
+use mathlib.Core.Path.{_≡_, sym, ap, _∙_, subst}
 use mathlib.Core.List.{List}
-use Prim.Native.Nat.{ℕ, _-_, _/_, _^_, _≤_}
+use Prim.Native.Nat.{ℕ, _/_, _≤_}
 use native.Mathlib.Omega.{arith}
 use borrow.Author.Needs.{needs}
 use lib.ListN.{length, drop}
 use Rattle.refusal.specs.Table.{Row, refusalOf}
-use Rattle.refusal.specs.Tests.{anyOutside}
-use Rattle.refusal.proofs.Laws.{Finds, none, here, later, finds-refusal}
+use Rattle.refusal.proofs.Laws.{Finds, here, later, finds-refusal, refusal-finds}
 use Rattle.refusal.proofs.Within.{inside-within}
 use Rattle.vector.proofs.FrameLaws.{largest-is}
 use Rattle.polar.proofs.CodeLaws.{code-refused, code-passed}
-use Rattle.decoder_refusal.specs.Refusals.{contentTable}
+use Rattle.decoder_refusal.specs.Refusals.{penaltyTable, contentTable}
 use Rattle.decoder_refusal.proofs.refusals.content_refusal.Statement.{statement}
 use Rattle.decoder_refusal.proofs.refusals.content_refusal.Tie as tie
 
@@ -33,12 +32,6 @@ s2 c = s1 (c .before .before)
 abbrev s3 : tie.Else3 → tie.Start
 s3 c = s2 (c .before .before)
 
-abbrev s4 : tie.Else4 → tie.Start
-s4 c = s3 (c .before .before .before .before)
-
-abbrev s5 : tie.Else5 → tie.Start
-s5 c = s4 (c .before)
-
 -- the walk past each row
 past1 : (c : tie.Else1) {k : ℕ} → Finds (drop 1 (table (s1 c))) k → Finds (table (s1 c)) k
 past1 c f = later (sym (c .before .is-outside .ensures) ∙ c .if1 .left) f
@@ -57,17 +50,13 @@ small c =
     let few = inside-within 1 5 (s3 c .args .qc) (sym (first .before .is-outside .ensures) ∙ first .if1 .left) .most in
     omega arith
 
--- the test of row 8 is made with the largest penalty of Qc
-above : (c : tie.After-any-above) → let s = s3 (c .before .before) .args in anyOutside 0 (2 ^ (s .qc) - 1) (s .frame .now) ≡ c .any-above .result
-above c =
+-- the rows on the frame are tried with the largest penalty of Qc
+frame-rows : (c : tie.After-frame-refusal) → let s = s3 (c .before .before) .args in
+    c .frame-refusal .result ≡ refusalOf (drop 5 (table (s3 (c .before .before))))
+frame-rows c =
     let s = s3 (c .before .before) .args in
-    sym (c .any-above .ensures ∙ ap (λ (x : ℕ). anyOutside 0 x (s .frame .now)) (c .before .largest .ensures ∙ largest-is (s .qc) (small (c .before .before))))
-
-past4 : (c : tie.Else4) {k : ℕ} → Finds (drop 6 (table (s4 c))) k → Finds (table (s4 c)) k
-past4 c f = past3 (c .before .before .before .before) (later (above (c .before .before) ∙ c .if4 .left) f)
-
-past5 : (c : tie.Else5) {k : ℕ} → Finds (drop 7 (table (s5 c))) k → Finds (table (s5 c)) k
-past5 c f = past4 (c .before) (later (sym (c .before .before .any-without-zero .ensures) ∙ c .if5 .left) f)
+    c .frame-refusal .ensures
+    ∙ ap (λ (x : ℕ). refusalOf (penaltyTable x (s .frame .now))) (c .before .largest .ensures ∙ largest-is (s .qc) (small (c .before .before)))
 
 is-outside-requires : tie.Need-is-outside-requires
 is-outside-requires c κs = search needs
@@ -90,20 +79,13 @@ returns-3 c = ends (s2 (c .before .before)) (past2 (c .before .before) (code-ref
 largest-requires : tie.Need-largest-requires
 largest-requires c κs = search needs
 
-any-above-requires : tie.Need-any-above-requires
-any-above-requires c κs = search needs
-
-any-without-zero-requires : tie.Need-any-without-zero-requires
-any-without-zero-requires c κs = search needs
+frame-refusal-requires : tie.Need-frame-refusal-requires
+frame-refusal-requires c κs = search needs
 
 returns-4 : tie.Need-returns-4
-returns-4 c = ends (s3 (c .before .before .before .before)) (past3 (c .before .before .before .before) (here (above (c .before .before) ∙ c .if4 .taken)))
-
-returns-5 : tie.Need-returns-5
-returns-5 c = ends (s4 (c .before)) (past4 (c .before) (here (sym (c .before .before .any-without-zero .ensures) ∙ c .if5 .taken)))
-
-returns-6 : tie.Need-returns-6
-returns-6 c = ends (s5 c) (past5 c none)
+returns-4 c =
+    let e = frame-rows c in
+    ends (s3 (c .before .before)) (past3 (c .before .before) (subst (Finds (drop 5 (table (s3 (c .before .before))))) (sym e) (refusal-finds _)))
 
 pub content-refusal-spec : {M : Type 1} → statement M
 content-refusal-spec =
@@ -116,8 +98,5 @@ content-refusal-spec =
     code-refusal-requires
     returns-3
     largest-requires
-    any-above-requires
-    any-without-zero-requires
-    returns-4
-    returns-5
-    returns-6)
+    frame-refusal-requires
+    returns-4)

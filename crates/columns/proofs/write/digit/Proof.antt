@@ -1,0 +1,19 @@
+-- `digit` meets its contract.
+use mathlib.Core.Path.{refl}
+use borrow.Author.Needs.{needs}
+use Rattle.columns.specs.Columns.{digit}
+use Rattle.columns.proofs.write.digit.Statement.{statement}
+use Rattle.columns.proofs.write.digit.Tie as tie
+
+cast-result : tie.Need-cast-result
+cast-result c = search needs
+
+add-result : tie.Need-add-result
+add-result c = search needs
+
+returns : tie.Need-returns
+unfolding digit
+returns c = refl
+
+pub digit-spec : {M : Type 1} → statement M
+digit-spec = tie.close (tie.spec cast-result add-result returns)

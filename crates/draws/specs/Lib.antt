@@ -1,0 +1,5 @@
+pub mod State
+pub mod Bytes
+pub mod Code
+pub mod Samples
+pub mod Sums

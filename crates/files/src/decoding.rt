@@ -1,0 +1,108 @@
+// Decoding the frame of frame.txt, and printing the listing.
+use crate::frame::read_frame;
+use crate::print::print_listing;
+use crate::print::print_refusal;
+use decoder::Answer;
+ghost use mathlib.Core.Path.{_≡_};
+ghost use Rattle.decoder.specs.Decode.{returned};
+ghost use Rattle.polar.specs.Code.{IsCode};
+ghost use Rattle.files.specs.Printed.{Printed, FrameRoom, Given, Roomy, Lent};
+
+// The number of an answer of the decoder: that of the refusal, 0 for a frame that was decoded.
+fn refused_by(answer: Answer) -> u8
+    ensures { λ r. ⌜ r ≡ returned answer .number ⌝ }
+{
+    match answer {
+        Answer::Count(_) => 0,
+        Answer::Refused(number) => number,
+    }
+}
+
+// Decodes at Qc = 5 and Qm = 13 and prints the listing, or the refusal of the frame. Returns 0, or that number.
+fn decode_and_print(
+    n: usize,
+    map: &[u8],
+    coefs: &[u8],
+    frame: &[u16],
+    work: &mut [u16],
+    symbols: &mut [u8],
+    report: &mut [u16],
+) -> u8
+    requires { ⌜ Lent n (now map) (now coefs) (now frame) (now work) (now symbols) (now report) ⌝ }
+    ensures { λ r. ⌜ Printed r ⌝ }
+{
+    let answer = decoder::decode(n, map, coefs, 5, 13, frame, work, symbols, report);
+    let Answer::Count(count) = answer else {
+        return print_refusal(refused_by(answer));
+    };
+    print_listing(symbols, report, count);
+    0
+}
+
+// The same with the starts of three buffers that have room for the longest word.
+fn decode_with_parts(
+    n: usize,
+    map: &[u8],
+    coefs: &[u8],
+    frame: &[u16],
+    work: &mut [u16],
+    symbols: &mut [u8],
+    report: &mut [u16],
+) -> u8
+    requires { ⌜ Roomy n (now map) (now coefs) (now frame) (now work) (now symbols) (now report) ⌝ }
+    ensures { λ r. ⌜ Printed r ⌝ }
+{
+    let size = map.len();
+    let work_size = 65 * size;
+    let report_size = 64 * size;
+    decode_and_print(
+        n,
+        map,
+        coefs,
+        frame,
+        &mut work[..work_size],
+        &mut symbols[..size],
+        &mut report[..report_size],
+    )
+}
+
+// The same with buffers of its own.
+fn decode_frame(n: usize, map: &[u8], coefs: &[u8], frame: &[u16]) -> u8
+    requires { ⌜ Given n (now map) (now coefs) (now frame) ⌝ }
+    ensures { λ r. ⌜ Printed r ⌝ }
+{
+    let mut work = [0u16; 16640];
+    let mut symbols = [0u8; 256];
+    let mut report = [0u16; 16384];
+    decode_with_parts(n, map, coefs, frame, &mut work, &mut symbols, &mut report)
+}
+
+// Reads frame.txt into the frame and decodes it. Returns 0 for a listing, or the number that was printed.
+fn read_and_decode(n: usize, map: &[u8], coefs: &[u8], frame: &mut [u16]) -> u8
+    requires { ⌜ Given n (now map) (now coefs) (now frame) ⌝ }
+    ensures { λ r. ⌜ Printed r ⌝ }
+{
+    let verdict = read_frame(frame);
+    if verdict != 0 {
+        return print_refusal(verdict);
+    }
+    decode_frame(n, map, coefs, frame)
+}
+
+// The same with the start of a buffer that has room for the longest frame.
+fn run_with_part(n: usize, map: &[u8], coefs: &[u8], frame: &mut [u16]) -> u8
+    requires { ⌜ FrameRoom n (now map) (now coefs) (now frame) ⌝ }
+    ensures { λ r. ⌜ Printed r ⌝ }
+{
+    let frame_size = 64 * map.len();
+    read_and_decode(n, map, coefs, &mut frame[..frame_size])
+}
+
+// The same with a frame of its own.
+pub(crate) fn run_frame(n: usize, map: &[u8], coefs: &[u8]) -> u8
+    requires { ⌜ IsCode n (now map) (now coefs) ⌝ }
+    ensures { λ r. ⌜ Printed r ⌝ }
+{
+    let mut frame = [0u16; 16384];
+    run_with_part(n, map, coefs, &mut frame)
+}

@@ -1,0 +1,34 @@
+// Reading frame.txt, one line at a time.
+use crate::read::close;
+use crate::read::read_some;
+ghost use Rattle.files.specs.Printed.{FrameNumber};
+
+// Reads a line for each place of the frame, and then whether a byte is left, and feeds them to the steps of `sheet`, which say what the file is refused
+// by and leave the frame's numbers. Returns that refusal, 0 where the file is taken.
+fn feed_file(fd: i32, frame: &mut [u16]) -> u8
+    ensures { λ r. ⌜ FrameNumber r ⌝ }
+{
+    let mut line = [0u8; 257];
+    let mut verdict: u8 = 0;
+    let count = frame.len() / 64;
+    let mut place: usize = 0;
+    while place < count {
+        let at = 64 * place;
+        let end = at + 64;
+        let got = read_some(fd, &mut line);
+        verdict = sheet::feed_line(verdict, &line[..got], &mut frame[at..end]);
+        place += 1;
+    }
+    let left = read_some(fd, &mut line[..1]) > 0;
+    sheet::end_frame(verdict, left)
+}
+
+// Reads frame.txt into the frame, which has 64 numbers for each place of the code. Returns the refusal, 0 where the file is taken.
+pub(crate) fn read_frame(frame: &mut [u16]) -> u8
+    ensures { λ r. ⌜ FrameNumber r ⌝ }
+{
+    let fd = os::open_read(b"frame.txt");
+    let verdict = feed_file(fd, frame);
+    close(fd);
+    verdict
+}

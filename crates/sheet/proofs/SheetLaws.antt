@@ -1,0 +1,311 @@
+-- The laws of the code sheet: its lines and numbers, and what its refusals say.
+use mathlib.Core.Path.{_≡_, refl, sym, ap, ap₂, _∙_, subst}
+use mathlib.Core.Logic.{inl, inr}
+use mathlib.Core.Bool.{Bool, true, false, not, _||_}
+use mathlib.Core.List.{List, [], _∷_, _++_}
+use Prim.Native.Nat.{ℕ, zero, suc, _+_, _-_, _*_, _/_, _^_, _<_, _≤_}
+use native.Mathlib.Nat.{le-of-suc-le-suc, not-suc-le-zero, zero-add, mul-le-mul-right}
+use native.Mathlib.Decide.{ℕ-discrete}
+use native.Mathlib.Omega.{arith}
+use borrow.Author.Tests.{ne-eqb, ltb-false, le-ltb}
+use lib.Dec.{eqb, lit≤, lit<}
+use lib.ListN.{length, getD, take, drop, length-append}
+use lib.Pow.{pow-mono}
+use lib.Seq.{take-take, take-at}
+use Rattle.refusal.specs.Table.{refusalOf, OneOf, NoneFits, Numbered}
+use Rattle.refusal.specs.Returned.{Returned}
+use Rattle.refusal.specs.Tests.{outside, anyOutside, Within}
+use Rattle.refusal.proofs.Laws.{taken-none, none-taken, first-refused, first-taken, taken-both, when-taken, when-refused, refusal-has}
+use Rattle.refusal.proofs.Within.{not-both, or-left, or-right, or-true-right, inside-within, false-equal, equal-false}
+use Rattle.polar.specs.Code.{kindOf, messageCount, messagePlaces, IsCode}
+use Rattle.polar.proofs.CodeLaws.{rows-code}
+use Rattle.vector.specs.Vector.{tabulate}
+use Rattle.vector.proofs.Laws.{length-tabulate, getD-tabulate}
+use Rattle.columns.specs.Reading.{spelled, part}
+use Rattle.columns.proofs.LineLaws.{lent-part}
+use Rattle.sheet.specs.CodeSheet.{numberOn, numbersOn, sheetLayers, sheetPlaces, sheetKernels, sheetLines, sheetMap, sheetCoefs, formTable, contentTable, sheetRefusal, returned, sheetAnswer, mapRead, coefsRead, SheetRead}
+use Rattle.sheet.specs.declared.code_sheet.Answer.{Answer}
+use Rattle.sheet.specs.declared.code_sheet.Answer.the-variants.{Layers, Refused}
+use Rattle.sheet.specs.Parts.{Lines, Formed, Bytes}
+
+-- the number on a line as it is lent: five bytes, of which four columns are read
+pub lent-number : (i : ℕ) (bytes : List ℕ) → spelled (take 4 (take (5 * i + 5 - 5 * i) (drop (5 * i) bytes))) ≡ numberOn i bytes
+unfolding numberOn
+lent-number i bytes = ap (λ (xs : List ℕ). spelled (take 4 xs)) (lent-part 5 i bytes)
+
+-- numbers that are tabulated, one of them outside
+module _ (low high : ℕ) where
+  pub one-outside : (n : ℕ) (f : ℕ → ℕ) (i : ℕ) → i < n → outside low high (f i) ≡ true → anyOutside low high (tabulate n f) ≡ true
+  unfolding tabulate anyOutside
+  one-outside zero f i l e = absurd (not-suc-le-zero l)
+  one-outside (suc n) f zero l e = ap (λ (t : Bool). t || anyOutside low high (tabulate n (λ j. f (suc j)))) e
+  one-outside (suc n) f (suc i) l e = or-true-right (outside low high (f 0)) (one-outside n (λ j. f (suc j)) i (le-of-suc-le-suc l) e)
+
+  -- and none
+  pub none-outside : (n : ℕ) (f : ℕ → ℕ) → ((i : ℕ) → i < n → outside low high (f i) ≡ false) → anyOutside low high (tabulate n f) ≡ false
+  unfolding tabulate anyOutside
+  none-outside zero f h = refl
+  none-outside (suc n) f h = ap₂ (λ (s t : Bool). s || t) (h 0 (omega arith)) (none-outside n (λ j. f (suc j)) (λ i l. h (suc i) (omega arith)))
+
+  module _ (first count : ℕ) (bytes : List ℕ) where
+    -- the number on one of the lines is outside
+    pub number-outside : (i : ℕ) → i < count → outside low high (numberOn (first + i) bytes) ≡ true → anyOutside low high (numbersOn first count bytes) ≡ true
+    unfolding numbersOn
+    number-outside i l e = one-outside count (λ j. numberOn (first + j) bytes) i l e
+
+    -- none of them is
+    pub numbers-inside : ((i : ℕ) → i < count → outside low high (numberOn (first + i) bytes) ≡ false) → anyOutside low high (numbersOn first count bytes) ≡ false
+    unfolding numbersOn
+    numbers-inside h = none-outside count (λ j. numberOn (first + j) bytes) h
+
+-- the number that the first four bytes spell is that on line 0
+pub first-number : (bytes : List ℕ) → spelled (take 4 bytes) ≡ numberOn 0 bytes
+unfolding numberOn part
+first-number bytes = ap spelled (sym (take-take 4 5 bytes (lit≤ tt)))
+
+-- where no number of a map is above 1, no place is a message place exactly where all of them are 1
+pub all-frozen : (map : List ℕ) → anyOutside 0 1 map ≡ false → eqb (messagePlaces map) 0 ≡ not (anyOutside 1 1 map)
+unfolding anyOutside messagePlaces kindOf messageCount outside
+all-frozen [] e = refl
+all-frozen (x ∷ map) e =
+    place x (inside-within 0 1 x (or-left (outside 0 1 x) (anyOutside 0 1 map) e)) (ℕ-discrete x 0) (all-frozen map (or-right (outside 0 1 x) (anyOutside 0 1 map) e))
+  where
+    place : (x : ℕ) → Within 0 1 x → Dec (x ≡ 0) → eqb (messagePlaces map) 0 ≡ not (anyOutside 1 1 map)
+        → eqb (messageCount (kindOf x) + messagePlaces map) 0 ≡ not (outside 1 1 x || anyOutside 1 1 map)
+    place x w (yes z) ih =
+        subst (λ (k : ℕ). eqb (messageCount (kindOf k) + messagePlaces map) 0 ≡ not (outside 1 1 k || anyOutside 1 1 map)) (sym z)
+        (ne-eqb (1 + messagePlaces map) 0 (λ q. absurd (omega arith)))
+    place x w (no h) ih =
+        let most = w .most in
+        let one : 1 ≡ x = omega arith in
+        subst (λ (k : ℕ). eqb (messageCount (kindOf k) + messagePlaces map) 0 ≡ not (outside 1 1 k || anyOutside 1 1 map)) one
+        (ap (λ (k : ℕ). eqb k 0) (zero-add (messagePlaces map)) ∙ ih)
+
+-- ---- the form
+module _ (bytes : List ℕ) where
+  -- no row on the form has the number 0
+  form-numbered : Numbered (formTable bytes)
+  form-numbered = (lit< tt, (lit< tt, (lit< tt, (lit< tt, (lit< tt, tt)))))
+
+  -- a sheet that no row on the form refuses has all its lines
+  pub formed : refusalOf (formTable bytes) ≡ 0 → Formed (sheetLayers bytes) bytes
+  formed e =
+      let rows = taken-none (formTable bytes) form-numbered e in
+      record {
+        is-n = refl;
+        layers = inside-within 1 8 (sheetLayers bytes) (rows .1 .1 .0);
+        long = false-equal (length bytes) (5 * sheetLines bytes) (rows .1 .1 .1 .0);
+      }
+
+  -- the lines of the map are there
+  pub map-lines : (n : ℕ) → Formed n bytes → Lines 1 (2 ^ n) bytes
+  map-lines n f =
+      let few = pow-mono {i = n} {j = 8} (f .layers .most) in
+      let long = f .long in
+      let size = ap (λ (k : ℕ). 2 ^ k) (f .is-n) in
+      record { few = omega arith; there = omega arith }
+
+  -- and those of the coefficients
+  pub coef-lines : (n : ℕ) → Formed n bytes → Lines (1 + 2 ^ n) (n * (2 ^ n / 2)) bytes
+  coef-lines n f =
+      let few = f .layers .most in
+      let size = pow-mono {i = n} {j = 8} few in
+      let kernels = mul-le-mul-right (2 ^ n / 2) few in
+      let long = f .long in
+      let places = ap (λ (k : ℕ). 2 ^ k) (f .is-n) in
+      let same = ap (λ (k : ℕ). k * (2 ^ k / 2)) (f .is-n) in
+      record { few = omega arith; there = omega arith }
+
+-- ---- the refusal, and what is read
+module _ (bytes map coefs : List ℕ) where
+  content-numbered : Numbered (contentTable bytes map coefs)
+  content-numbered = (lit< tt, (lit< tt, (lit< tt, (lit< tt, (lit< tt, tt)))))
+
+  -- a sheet that is refused by its form
+  pub form-refused : {r : ℕ} → r ≡ refusalOf (formTable bytes) → (r ≡ 0 → ⊥) → r ≡ sheetRefusal bytes map coefs
+  unfolding sheetRefusal
+  form-refused e h = first-refused (formTable bytes) (contentTable bytes map coefs) e h
+
+  -- one that is not: the rest decides
+  pub form-taken : {r s : ℕ} → r ≡ refusalOf (formTable bytes) → r ≡ 0 → s ≡ refusalOf (contentTable bytes map coefs) → s ≡ sheetRefusal bytes map coefs
+  unfolding sheetRefusal
+  form-taken e z f = first-taken (formTable bytes) (contentTable bytes map coefs) (form-numbered bytes) (sym e ∙ z) f
+
+  module _ (e : sheetRefusal bytes map coefs ≡ 0) where
+    -- no row fits
+    rows : NoneFits (formTable bytes) × NoneFits (contentTable bytes map coefs)
+    unfolding sheetRefusal
+    rows = taken-both (formTable bytes) (contentTable bytes map coefs) (form-numbered bytes) content-numbered e
+
+    -- so the sheet has all its lines
+    pub lines : Formed (sheetLayers bytes) bytes
+    lines = formed bytes (none-taken (formTable bytes) (rows .0))
+
+    -- it is a code
+    pub is-code : IsCode (sheetLayers bytes) (sheetMap bytes) (sheetCoefs bytes)
+    unfolding sheetMap sheetCoefs numbersOn
+    is-code =
+        let f = rows .0 in
+        let c = rows .1 in
+        rows-code (sheetLayers bytes) (sheetMap bytes) (sheetCoefs bytes) (
+          f .1 .1 .0,
+          (
+            equal-false _ _ (length-tabulate (sheetPlaces bytes) (λ j. numberOn (1 + j) bytes)),
+            (equal-false _ _ (length-tabulate (sheetKernels bytes) (λ j. numberOn (1 + sheetPlaces bytes + j) bytes)), tt),
+          ),
+        )
+        (c .1 .1 .0, (c .1 .1 .1 .0, (c .1 .1 .1 .1 .0, tt)))
+
+    -- with room for it in the buffers
+    pub map-room : sheetPlaces bytes ≤ length map
+    map-room = ltb-false (length map) (sheetPlaces bytes) (rows .1 .0)
+
+    pub coefs-room : sheetKernels bytes ≤ length coefs
+    coefs-room = ltb-false (length coefs) (sheetKernels bytes) (rows .1 .1 .0)
+
+    -- and its numbers are bytes
+    pub map-bytes : (i : ℕ) → i < sheetPlaces bytes → numberOn (1 + i) bytes < 256
+    unfolding sheetMap numbersOn
+    map-bytes i l =
+        let size = length-tabulate (sheetPlaces bytes) (λ j. numberOn (1 + j) bytes) in
+        let w = is-code .map-bytes i (omega arith) .most in
+        let q = getD-tabulate 0 (sheetPlaces bytes) (λ j. numberOn (1 + j) bytes) i l in
+        omega arith
+
+    pub coefs-bytes : (i : ℕ) → i < sheetKernels bytes → numberOn (1 + sheetPlaces bytes + i) bytes < 256
+    unfolding sheetCoefs numbersOn
+    coefs-bytes i l =
+        let size = length-tabulate (sheetKernels bytes) (λ j. numberOn (1 + sheetPlaces bytes + j) bytes) in
+        let w = is-code .coefs i (omega arith) .most in
+        let q = getD-tabulate 1 (sheetKernels bytes) (λ j. numberOn (1 + sheetPlaces bytes + j) bytes) i l in
+        omega arith
+
+    -- what `write_numbers` is given, for the map and for the coefficients
+    pub map-given : (out : List ℕ) → length out ≡ sheetPlaces bytes → Bytes 1 bytes out
+    map-given out q = record {
+      lines = subst (λ (k : ℕ). Lines 1 k bytes) (sym q) (map-lines bytes (sheetLayers bytes) lines);
+      small = λ i l. map-bytes i (omega arith);
+    }
+
+    pub coefs-given : (out : List ℕ) → length out ≡ sheetKernels bytes → Bytes (1 + sheetPlaces bytes) bytes out
+    coefs-given out q = record {
+      lines = subst (λ (k : ℕ). Lines (1 + sheetPlaces bytes) k bytes) (sym q) (coef-lines bytes (sheetLayers bytes) lines);
+      small = λ i l. coefs-bytes i (omega arith);
+    }
+
+  -- a sheet that is refused: the buffers as they came
+  pub sheet-refused : {r : ℕ} → r ≡ sheetRefusal bytes map coefs → (r ≡ 0 → ⊥) → SheetRead bytes map coefs map coefs (Refused r)
+  unfolding sheetAnswer mapRead coefsRead returned
+  sheet-refused {r} e h =
+      let refusal = sheetRefusal bytes map coefs in
+      let not-taken : refusal ≡ 0 → ⊥ = λ q. h (e ∙ q) in
+      record {
+        answer = ap₂ (λ (k : ℕ) (vs : List ℕ). record { number = k; values = vs }) e (sym (when-refused refusal (sheetLayers bytes ∷ []) [] not-taken));
+        map-is = sym (when-refused refusal (sheetMap bytes ++ drop (sheetPlaces bytes) map) map not-taken);
+        coefs-are = sym (when-refused refusal (sheetCoefs bytes ++ drop (sheetKernels bytes) coefs) coefs not-taken);
+        code = λ q. absurd (not-taken q);
+        map-room = λ q. absurd (not-taken q);
+        coefs-room = λ q. absurd (not-taken q);
+      }
+
+  -- a sheet that is taken
+  pub sheet-taken : {n : ℕ} {mapAfter coefsAfter : List ℕ} → sheetRefusal bytes map coefs ≡ 0 → n ≡ sheetLayers bytes
+      → mapAfter ≡ sheetMap bytes ++ drop (sheetPlaces bytes) map → coefsAfter ≡ sheetCoefs bytes ++ drop (sheetKernels bytes) coefs
+      → SheetRead bytes map coefs mapAfter coefsAfter (Layers n)
+  unfolding sheetAnswer mapRead coefsRead returned
+  sheet-taken e is-n m c =
+      let refusal = sheetRefusal bytes map coefs in
+      record {
+        answer = ap₂ (λ (k : ℕ) (vs : List ℕ). record { number = k; values = vs }) (sym e)
+            (ap (λ (k : ℕ). k ∷ []) is-n ∙ sym (when-taken refusal (sheetLayers bytes ∷ []) [] e));
+        map-is = m ∙ sym (when-taken refusal (sheetMap bytes ++ drop (sheetPlaces bytes) map) map e);
+        coefs-are = c ∙ sym (when-taken refusal (sheetCoefs bytes ++ drop (sheetKernels bytes) coefs) coefs e);
+        code = is-code;
+        map-room = map-room;
+        coefs-room = coefs-room;
+      }
+
+-- ---- the numbers that a sheet can be refused by, where the buffers have room for every code
+pub sheet-numbers : (bytes map coefs : List ℕ) → 256 ≤ length map → 1024 ≤ length coefs → OneOf (sheetRefusal bytes map coefs) (0 ∷ 1 ∷ 4 ∷ 5 ∷ 6 ∷ 12 ∷ [])
+sheet-numbers bytes map coefs room space = go (ℕ-discrete (refusalOf (formTable bytes)) 0)
+  where
+    go : Dec (refusalOf (formTable bytes) ≡ 0) → OneOf (sheetRefusal bytes map coefs) (0 ∷ 1 ∷ 4 ∷ 5 ∷ 6 ∷ 12 ∷ [])
+    go (no h) =
+        subst (λ (k : ℕ). OneOf k (0 ∷ 1 ∷ 4 ∷ 5 ∷ 6 ∷ 12 ∷ [])) (form-refused bytes map coefs refl h)
+        (refusal-has (λ k. OneOf k (0 ∷ 1 ∷ 4 ∷ 5 ∷ 6 ∷ 12 ∷ [])) (inl refl) (formTable bytes)
+        ((λ e. twelve), ((λ e. twelve), ((λ e. inr (inl refl)), ((λ e. twelve), ((λ e. twelve), tt))))))
+      where
+        twelve : OneOf 12 (0 ∷ 1 ∷ 4 ∷ 5 ∷ 6 ∷ 12 ∷ [])
+        twelve = inr (inr (inr (inr (inr (inl refl)))))
+    go (yes z) =
+        let few = formed bytes z .layers .most in
+        let size = pow-mono {i = sheetLayers bytes} {j = 8} few in
+        let count = mul-le-mul-right (sheetPlaces bytes / 2) few in
+        subst (λ (k : ℕ). OneOf k (0 ∷ 1 ∷ 4 ∷ 5 ∷ 6 ∷ 12 ∷ [])) (form-taken bytes map coefs refl z refl)
+        (refusal-has (λ k. OneOf k (0 ∷ 1 ∷ 4 ∷ 5 ∷ 6 ∷ 12 ∷ [])) (inl refl) (contentTable bytes map coefs) (
+          (λ e. absurd (not-both (le-ltb (length map) (sheetPlaces bytes) (omega arith)) e)),
+          (
+            (λ e. absurd (not-both (le-ltb (length coefs) (sheetKernels bytes) (omega arith)) e)),
+            ((λ e. inr (inr (inl refl))), ((λ e. inr (inr (inr (inl refl)))), ((λ e. inr (inr (inr (inr (inl refl))))), tt))),
+          ),
+        ))
+
+-- ---- what a sheet that was read leaves: a code at the start of the two buffers
+module _ {bytes map coefs m c : List ℕ} {n : ℕ} (read : SheetRead bytes map coefs m c (Layers n)) where
+  -- the sheet was taken
+  accepted : sheetRefusal bytes map coefs ≡ 0
+  unfolding returned sheetAnswer
+  accepted = sym (ap (λ (x : Returned). x .number) (read .answer))
+
+  -- n is what stands on its first line
+  layers-are : n ≡ sheetLayers bytes
+  unfolding returned sheetAnswer
+  layers-are =
+      ap (λ (x : Returned). getD (x .values) 0 0) (read .answer)
+      ∙ ap (λ (xs : List ℕ). getD xs 0 0) (when-taken (sheetRefusal bytes map coefs) (sheetLayers bytes ∷ []) [] accepted)
+
+  -- the buffers hold its numbers, and after them what was there
+  map-after : m ≡ sheetMap bytes ++ drop (sheetPlaces bytes) map
+  unfolding mapRead
+  map-after = read .map-is ∙ when-taken (sheetRefusal bytes map coefs) (sheetMap bytes ++ drop (sheetPlaces bytes) map) map accepted
+
+  coefs-after : c ≡ sheetCoefs bytes ++ drop (sheetKernels bytes) coefs
+  unfolding coefsRead
+  coefs-after = read .coefs-are ∙ when-taken (sheetRefusal bytes map coefs) (sheetCoefs bytes ++ drop (sheetKernels bytes) coefs) coefs accepted
+
+  map-front : take (2 ^ n) m ≡ sheetMap bytes
+  map-front =
+      ap₂ (λ (k : ℕ) (xs : List ℕ). take (2 ^ k) xs) layers-are map-after
+      ∙ take-at (sheetMap bytes) (drop (sheetPlaces bytes) map) (sheetPlaces bytes) (read .code accepted .map-long)
+
+  coefs-front : take (n * (2 ^ n / 2)) c ≡ sheetCoefs bytes
+  coefs-front =
+      ap₂ (λ (k : ℕ) (xs : List ℕ). take (k * (2 ^ k / 2)) xs) layers-are coefs-after
+      ∙ take-at (sheetCoefs bytes) (drop (sheetKernels bytes) coefs) (sheetKernels bytes) (read .code accepted .coefs-long)
+
+  -- so the first N and n × N/2 bytes are a code
+  pub code-read : IsCode n (take (2 ^ n) m) (take (n * (2 ^ n / 2)) c)
+  code-read =
+      subst (λ (xs : List ℕ). IsCode n xs (take (n * (2 ^ n / 2)) c)) (sym map-front)
+      (subst (λ (xs : List ℕ). IsCode n (sheetMap bytes) xs) (sym coefs-front)
+      (subst (λ (k : ℕ). IsCode k (sheetMap bytes) (sheetCoefs bytes)) (sym layers-are) (read .code accepted)))
+
+  -- and they are there
+  pub map-there : 2 ^ n ≤ length m
+  map-there =
+      let long = ap length map-after ∙ length-append (sheetMap bytes) (drop (sheetPlaces bytes) map) in
+      let size = read .code accepted .map-long in
+      let same = ap (λ (k : ℕ). 2 ^ k) layers-are in
+      omega arith
+
+  pub coefs-there : n * (2 ^ n / 2) ≤ length c
+  coefs-there =
+      let long = ap length coefs-after ∙ length-append (sheetCoefs bytes) (drop (sheetKernels bytes) coefs) in
+      let size = read .code accepted .coefs-long in
+      let same = ap (λ (k : ℕ). k * (2 ^ k / 2)) layers-are in
+      omega arith
+
+-- the number that a sheet is refused by, from the answer
+pub number-read : {bytes map coefs m c : List ℕ} {r : Answer} → SheetRead bytes map coefs m c r → returned r .number ≡ sheetRefusal bytes map coefs
+unfolding sheetAnswer
+number-read read = ap (λ (x : Returned). x .number) (read .answer)

@@ -1,0 +1,103 @@
+-- `write_llrs` meets its contract: the numbers before i are those of the line.
+use mathlib.Core.Path.{_≡_, ap, _∙_}
+use mathlib.Core.Bool.{true}
+use Prim.Native.Nat.{ℕ, _-_, _<_}
+use native.Mathlib.Omega.{arith}
+use lib.ListN.{length}
+use Rattle.vector.proofs.Laws.{Filled, fill-none, fill-more, fill-all}
+use Rattle.columns.specs.Reading.{spelled, part, numbers, isLine}
+use Rattle.columns.proofs.LineLaws.{line-long, line-small}
+use Rattle.sheet.proofs.NumberLaws.{lent-field}
+use borrow.Author.Needs.{needs}
+use Rattle.sheet.proofs.frame_line.write_llrs.Statement.{statement}
+use Rattle.sheet.proofs.frame_line.write_llrs.Tie as tie
+
+abbrev Inv-loop : tie.InvT-loop
+Inv-loop line llrs₀ i₀ llrs i =
+    (isLine 4 64 line ≡ true) × (length line ≡ 257) × Filled 64 (λ j. spelled (part 4 j line)) llrs i
+
+abbrev μ-loop : tie.MeasureT-loop
+μ-loop line llrs₀ i₀ llrs i = 64 - i
+
+loop-holds : tie.Need-loop-holds Inv-loop μ-loop
+loop-holds c =
+    let g = c .before .before .pre in
+    (g .is-line, line-long 4 64 (c .before .before .args .line .now) (g .is-line), fill-none (g .long))
+
+mul-at : tie.Need-mul-at Inv-loop μ-loop
+mul-at c = search needs
+
+add-end : tie.Need-add-end Inv-loop μ-loop
+add-end c = search needs
+
+sub-spelled-number : tie.Need-sub-spelled-number Inv-loop μ-loop
+sub-spelled-number c = search needs
+
+part-spelled-number-start : tie.Need-part-spelled-number-start Inv-loop μ-loop
+part-spelled-number-start c = search needs
+
+part-spelled-number-end : tie.Need-part-spelled-number-end Inv-loop μ-loop
+part-spelled-number-end c = search needs
+
+spelled-number-requires : tie.Need-spelled-number-requires Inv-loop μ-loop
+spelled-number-requires c κs = search needs
+
+-- the number is at most 9,999
+number-small : (c : tie.After-spelled-number Inv-loop μ-loop) → c .spelled-number .result < 65536
+number-small c =
+    let at = c .before .before .before .loop in
+    let line = c .before .before .before .before .before .before .args .line .now in
+    let s = line-small 4 64 line (at .inv .0) (at .i) (search needs) in
+    let e = c .spelled-number .ensures ∙ lent-field (at .i) line in
+    omega arith
+
+cast-llrs : tie.Need-cast-llrs Inv-loop μ-loop
+cast-llrs c =
+    let small = number-small c in
+    search needs
+
+mul-llrs : tie.Need-mul-llrs Inv-loop μ-loop
+mul-llrs c = search needs
+
+slice-write-llrs : tie.Need-slice-write-llrs Inv-loop μ-loop
+slice-write-llrs c = search needs
+
+add-i : tie.Need-add-i Inv-loop μ-loop
+add-i c = search needs
+
+loop-less : tie.Need-loop-less Inv-loop μ-loop
+loop-less c = search needs
+
+loop-again : tie.Need-loop-again Inv-loop μ-loop
+loop-again c =
+    let at = c .before .before .before .loop in
+    (at .inv .0, at .inv .1, fill-more (at .inv .2) (search needs) (c .spelled-number .ensures ∙ lent-field (at .i) _))
+
+same-length : tie.Need-same-length Inv-loop μ-loop
+same-length c = search needs
+
+returns : tie.Need-returns Inv-loop μ-loop
+unfolding numbers
+returns c = fill-all (c .before .loop .inv .2) (c .loop-test .left)
+
+pub write-llrs-spec : {M : Type 1} → statement M
+write-llrs-spec =
+    tie.close
+    (tie.spec
+    Inv-loop
+    μ-loop
+    loop-holds
+    mul-at
+    add-end
+    sub-spelled-number
+    part-spelled-number-start
+    part-spelled-number-end
+    spelled-number-requires
+    cast-llrs
+    mul-llrs
+    slice-write-llrs
+    add-i
+    loop-less
+    loop-again
+    same-length
+    returns)

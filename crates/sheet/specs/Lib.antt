@@ -1,0 +1,4 @@
+pub mod CodeSheet
+pub mod FrameLine
+pub mod FrameFile
+pub mod Parts
