@@ -219,6 +219,8 @@ CASES = (
      "12, since there is no sheet"),
     ("ends_no_frame", 12, 2, draw_files, [], [no_file],
      "12, since there is no frame"),
+    ("ends_sheet_long_256", 12, 8, draw_files, [with_more(b"\n")], [],
+     "12, since the sheet of a code of 256 places is too long by one byte"),
 )
 
 

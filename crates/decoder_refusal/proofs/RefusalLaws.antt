@@ -44,7 +44,7 @@ zero-nowhere (x ∷ xs) h =
     ap₂ (λ (s t : Bool). not s && t) (ne-eqb x 0 (h 0 (zero-lt-suc (length xs)))) (zero-nowhere xs (λ b l. h (suc b) (omega arith)))
 
 -- where the test for no 0 does not fit, there is one
-some-zero : (xs : List ℕ) → noZero xs ≡ false → (b : ℕ) × (b < length xs) × (getD xs b 0 ≡ 0)
+pub some-zero : (xs : List ℕ) → noZero xs ≡ false → (b : ℕ) × (b < length xs) × (getD xs b 0 ≡ 0)
 unfolding noZero
 some-zero [] e = absurd (let z : _≡_ {A = ℕ} 0 1 = cc in omega arith)
 some-zero (x ∷ xs) e = go (eqb x 0) refl e (some-zero xs)
@@ -244,51 +244,6 @@ module _ (n : ℕ) (map cs : List ℕ) (qc qm : ℕ) (frame work symbols report 
                             (
                               skip (bytes .1 .1 .0),
                               ((λ e. inr (inr (inr (inl refl)))), ((λ e. inr (inr (inr (inr (inl refl))))), tt)),
-                            ),
-                          ),
-                        ),
-                      ),
-                    ),
-                  ),
-                ),
-              ),
-            ),
-          ),
-        ),
-      )
-
-  -- with lengths and precisions that are right, only 8 and 9 are left
-  pub frame-numbers : length frame ≡ 64 * 2 ^ n → length work ≡ 65 * 2 ^ n → length symbols ≡ 2 ^ n → length report ≡ 64 * 2 ^ n
-      → Within 1 5 qc → Within qc 13 qm → OneOf (decodeRefusal n map cs qc qm frame work symbols report) (0 ∷ 8 ∷ 9 ∷ [])
-  unfolding decodeRefusal
-  frame-numbers lf lw ls lr c m =
-      let sizes = code-sizes n map cs code in
-      let bytes = code-bytes n map cs code in
-      refusal-has (λ k. OneOf k (0 ∷ 8 ∷ 9 ∷ [])) (inl refl) (decodeTable n map cs qc qm frame work symbols report) (
-        skip (sizes .0),
-        (
-          skip (sizes .1 .0),
-          (
-            skip (sizes .1 .1 .0),
-            (
-              skip (equal-false _ _ lf),
-              (
-                skip (equal-false _ _ lw),
-                (
-                  skip (equal-false _ _ ls),
-                  (
-                    skip (equal-false _ _ lr),
-                    (
-                      skip (within-inside 1 5 qc c),
-                      (
-                        skip (within-inside qc 13 qm m),
-                        (
-                          skip (bytes .0),
-                          (
-                            skip (bytes .1 .0),
-                            (
-                              skip (bytes .1 .1 .0),
-                              ((λ e. inr (inl refl)), ((λ e. inr (inr (inl refl))), tt)),
                             ),
                           ),
                         ),

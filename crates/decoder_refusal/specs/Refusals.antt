@@ -21,9 +21,13 @@ noZero (x ∷ xs) = not (eqb x 0) && noZero xs
 abbrev pub qmRow : (qc qm : ℕ) → Row
 qmRow qc qm = (3, outside qc 13 qm)
 
+-- 8: a penalty above the largest one
+abbrev pub aboveRow : (most : ℕ) → List ℕ → Row
+aboveRow most frame = (8, anyOutside 0 most frame)
+
 -- 8: a penalty above 2^Qc − 1
 abbrev pub llrsRow : (qc : ℕ) → List ℕ → Row
-llrsRow qc frame = (8, anyOutside 0 (2 ^ qc - 1) frame)
+llrsRow qc frame = aboveRow (2 ^ qc - 1) frame
 
 -- 9: the 64 penalties of one of the N symbols hold no zero
 abbrev pub zerosRow : (places : ℕ) → List ℕ → Row
@@ -31,7 +35,7 @@ zerosRow places frame = (9, anyTo places (λ i. noZero (vectorAt frame i)))
 
 -- the two rows on the penalties of a frame, the largest penalty being `most`
 abbrev pub penaltyTable : (most : ℕ) → List ℕ → List Row
-penaltyTable most frame = (8, anyOutside 0 most frame) ∷ zerosRow (length frame / 64) frame ∷ []
+penaltyTable most frame = aboveRow most frame ∷ zerosRow (length frame / 64) frame ∷ []
 
 -- the rows of document 01's table that `decode` has the input for, in its order: first those on n and the lengths
 abbrev pub sizeTable : (n : ℕ) (map cs frame work symbols report : List ℕ) → List Row

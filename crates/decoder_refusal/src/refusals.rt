@@ -38,7 +38,7 @@ fn any_without_zero(frame: &[u16]) -> bool
 }
 
 // The number by which a frame's penalties are refused, for any slice: 8 where one is above `most`, else 9 where the 64 of one symbol hold no zero,
-// and 0 where neither fits. Numbers after the last whole vector of 64 count for 8 alone. Both tests are made: a frame that is accepted needs both.
+// and 0 where neither fits. Numbers after the last whole vector of 64 count for 8 alone.
 pub fn frame_refusal(frame: &[u16], most: u16) -> u8
     ensures { λ r. ⌜ r ≡ refusalOf (penaltyTable most (now (frame .entry))) ⌝ }
 {

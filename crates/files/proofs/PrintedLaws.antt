@@ -2,21 +2,24 @@
 use mathlib.Core.Path.{_≡_, refl, sym, ap, _∙_, subst}
 use mathlib.Core.Logic.{inl, inr}
 use mathlib.Core.List.{List, [], _∷_}
-use Prim.Native.Nat.{ℕ}
+use Prim.Native.Nat.{ℕ, _+_, _*_, _/_, _%_, _≤_, _<_}
+use native.Mathlib.Omega.{arith}
 use native.Mathlib.Nat.{le-of-eq}
 use lib.Dec.{lit≤}
-use lib.ListN.{length}
+use lib.ListN.{length, getD}
+use Rattle.vector.specs.Frame.{IsFrame}
+use Rattle.vector.proofs.SliceLaws.{vector-entry}
 use Rattle.refusal.specs.Table.{OneOf}
 use Rattle.refusal.specs.Returned.{Returned}
 use Rattle.refusal.proofs.Laws.{among}
-use Rattle.decoder_refusal.proofs.RefusalLaws.{frame-numbers}
+use Rattle.decoder_refusal.proofs.RefusalLaws.{takes}
 use Rattle.decoder.specs.Decode.{returned, decodeAnswer, Decoded}
 use Rattle.decoder.specs.declared.decoder.Answer.{Answer}
 use Rattle.sheet.specs.CodeSheet.{SheetRead}
 use Rattle.sheet.specs.CodeSheet.{returned as sheetReturned}
 use Rattle.sheet.specs.declared.code_sheet.Answer.{Answer as SheetAnswer}
 use Rattle.sheet.proofs.SheetLaws.{sheet-numbers, number-read}
-use Rattle.files.specs.Printed.{Printed, FrameNumber, Lent}
+use Rattle.files.specs.Printed.{Printed, FrameNumber, Penalties, Lent}
 
 -- a frame's numbers
 pub frame-printed : (r : ℕ) → FrameNumber r → Printed r
@@ -24,21 +27,36 @@ frame-printed r o =
     among r (0 ∷ 12 ∷ 8 ∷ 9 ∷ []) (0 ∷ 1 ∷ 4 ∷ 5 ∷ 6 ∷ 8 ∷ 9 ∷ 12 ∷ [])
     (inl refl, (inr (inr (inr (inr (inr (inr (inr (inl refl))))))), (inr (inr (inr (inr (inr (inl refl))))), (inr (inr (inr (inr (inr (inr (inl refl)))))), tt)))) o
 
--- the decoder's
-module _ {n : ℕ} {map coefs frame work symbols report w s t : List ℕ} {a : Answer} (g : Lent n map coefs frame work symbols report)
-    (d : Decoded n map coefs 5 13 frame work symbols report w s t a) where
-  answered : OneOf (returned a .number) (0 ∷ 8 ∷ 9 ∷ [])
-  unfolding decodeAnswer
-  answered =
-      subst (λ (k : ℕ). OneOf k (0 ∷ 8 ∷ 9 ∷ [])) (sym (ap (λ (x : Returned). x .number) (d .answer)))
-      (frame-numbers n map coefs 5 13 frame work symbols report (g .given .code) (g .given .frame-long) (g .work-long) (g .symbols-long) (g .report-long)
-      (record { least = lit≤ tt; most = lit≤ tt }) (record { least = lit≤ tt; most = lit≤ tt }))
+-- a frame that was taken is one of penalties at Qc = 5
+is-frame : (frame : List ℕ) → Penalties frame → length frame % 64 ≡ 0 → IsFrame 5 frame
+is-frame frame p whole = record {
+  small = λ j l.
+      let v : j / 64 < length frame / 64 = omega arith in
+      let b : j % 64 < 64 = omega arith in
+      let at : 64 * (j / 64) + j % 64 ≡ j = omega arith in
+      subst (λ (k : ℕ). getD frame k 0 ≤ 31) at (subst (λ (x : ℕ). x ≤ 31) (vector-entry frame (j / 64) (j % 64) b) (p (j / 64) v .0 (j % 64) b));
+  zeros = λ i l. p i l .1;
+}
 
-  pub decoder-printed : (r : ℕ) → r ≡ returned a .number → Printed r
-  decoder-printed r e =
-      among r (0 ∷ 8 ∷ 9 ∷ []) (0 ∷ 1 ∷ 4 ∷ 5 ∷ 6 ∷ 8 ∷ 9 ∷ 12 ∷ [])
-      (inl refl, (inr (inr (inr (inr (inr (inl refl))))), (inr (inr (inr (inr (inr (inr (inl refl)))))), tt)))
-      (subst (λ (k : ℕ). OneOf k (0 ∷ 8 ∷ 9 ∷ [])) (sym e) answered)
+-- so the decoder does not refuse it
+pub decoded-zero : {n : ℕ} {map coefs frame work symbols report w s t : List ℕ} {a : Answer} → Lent n map coefs frame work symbols report
+    → Decoded n map coefs 5 13 frame work symbols report w s t a → returned a .number ≡ 0
+unfolding decodeAnswer
+decoded-zero {n} {map} {coefs} {frame} {work} {symbols} {report} g d =
+    let given = g .taken .given in
+    let long = given .frame-long in
+    ap (λ (x : Returned). x .number) (d .answer)
+    ∙ takes n map coefs 5 13 frame work symbols report
+    (record {
+      code = given .code;
+      frame-long = long;
+      work-long = g .work-long;
+      symbols-long = g .symbols-long;
+      report-long = g .report-long;
+      channel-precision = record { least = lit≤ tt; most = lit≤ tt };
+      internal-precision = record { least = lit≤ tt; most = lit≤ tt };
+      is-frame = is-frame frame (g .taken .penalties) (omega arith);
+    })
 
 -- the sheet reader's, with buffers that have room for every code
 pub sheet-printed : {bytes map coefs m c : List ℕ} {a : SheetAnswer} → SheetRead bytes map coefs m c a → 256 ≡ length map → 1024 ≡ length coefs

@@ -6,7 +6,7 @@ use decoder::Answer;
 ghost use mathlib.Core.Path.{_≡_};
 ghost use Rattle.decoder.specs.Decode.{returned};
 ghost use Rattle.polar.specs.Code.{IsCode};
-ghost use Rattle.files.specs.Printed.{Printed, FrameRoom, Given, Roomy, Lent};
+ghost use Rattle.files.specs.Printed.{FrameNumber, FrameRoom, Given, Taken, Roomy, Lent};
 
 // The number of an answer of the decoder: that of the refusal, 0 for a frame that was decoded.
 fn refused_by(answer: Answer) -> u8
@@ -18,7 +18,8 @@ fn refused_by(answer: Answer) -> u8
     }
 }
 
-// Decodes at Qc = 5 and Qm = 13 and prints the listing, or the refusal of the frame. Returns 0, or that number.
+// Decodes at Qc = 5 and Qm = 13 and prints the listing, and returns 0. A refusal would be printed and returned; it is proved that there is none, since the
+// code and the frame were taken.
 fn decode_and_print(
     n: usize,
     map: &[u8],
@@ -29,7 +30,7 @@ fn decode_and_print(
     report: &mut [u16],
 ) -> u8
     requires { ⌜ Lent n (now map) (now coefs) (now frame) (now work) (now symbols) (now report) ⌝ }
-    ensures { λ r. ⌜ Printed r ⌝ }
+    ensures { λ r. ⌜ r ≡ 0 ⌝ }
 {
     let answer = decoder::decode(n, map, coefs, 5, 13, frame, work, symbols, report);
     let Answer::Count(count) = answer else {
@@ -39,7 +40,7 @@ fn decode_and_print(
     0
 }
 
-// The same with the starts of three buffers that have room for the longest word.
+// Decodes and prints, with the starts of three buffers that have room for the longest word.
 fn decode_with_parts(
     n: usize,
     map: &[u8],
@@ -50,7 +51,7 @@ fn decode_with_parts(
     report: &mut [u16],
 ) -> u8
     requires { ⌜ Roomy n (now map) (now coefs) (now frame) (now work) (now symbols) (now report) ⌝ }
-    ensures { λ r. ⌜ Printed r ⌝ }
+    ensures { λ r. ⌜ r ≡ 0 ⌝ }
 {
     let size = map.len();
     let work_size = 65 * size;
@@ -66,10 +67,10 @@ fn decode_with_parts(
     )
 }
 
-// The same with buffers of its own.
+// Decodes and prints, with buffers of its own.
 fn decode_frame(n: usize, map: &[u8], coefs: &[u8], frame: &[u16]) -> u8
-    requires { ⌜ Given n (now map) (now coefs) (now frame) ⌝ }
-    ensures { λ r. ⌜ Printed r ⌝ }
+    requires { ⌜ Taken n (now map) (now coefs) (now frame) ⌝ }
+    ensures { λ r. ⌜ r ≡ 0 ⌝ }
 {
     let mut work = [0u16; 16640];
     let mut symbols = [0u8; 256];
@@ -80,7 +81,7 @@ fn decode_frame(n: usize, map: &[u8], coefs: &[u8], frame: &[u16]) -> u8
 // Reads frame.txt into the frame and decodes it. Returns 0 for a listing, or the number that was printed.
 fn read_and_decode(n: usize, map: &[u8], coefs: &[u8], frame: &mut [u16]) -> u8
     requires { ⌜ Given n (now map) (now coefs) (now frame) ⌝ }
-    ensures { λ r. ⌜ Printed r ⌝ }
+    ensures { λ r. ⌜ FrameNumber r ⌝ }
 {
     let verdict = read_frame(frame);
     if verdict != 0 {
@@ -89,19 +90,19 @@ fn read_and_decode(n: usize, map: &[u8], coefs: &[u8], frame: &mut [u16]) -> u8
     decode_frame(n, map, coefs, frame)
 }
 
-// The same with the start of a buffer that has room for the longest frame.
+// Reads frame.txt into the start of a buffer that has room for the longest frame, and decodes it.
 fn run_with_part(n: usize, map: &[u8], coefs: &[u8], frame: &mut [u16]) -> u8
     requires { ⌜ FrameRoom n (now map) (now coefs) (now frame) ⌝ }
-    ensures { λ r. ⌜ Printed r ⌝ }
+    ensures { λ r. ⌜ FrameNumber r ⌝ }
 {
     let frame_size = 64 * map.len();
     read_and_decode(n, map, coefs, &mut frame[..frame_size])
 }
 
-// The same with a frame of its own.
+// Reads frame.txt into a buffer of its own, and decodes it.
 pub(crate) fn run_frame(n: usize, map: &[u8], coefs: &[u8]) -> u8
     requires { ⌜ IsCode n (now map) (now coefs) ⌝ }
-    ensures { λ r. ⌜ Printed r ⌝ }
+    ensures { λ r. ⌜ FrameNumber r ⌝ }
 {
     let mut frame = [0u16; 16384];
     run_with_part(n, map, coefs, &mut frame)

@@ -1,12 +1,14 @@
 // Reading frame.txt, one line at a time.
 use crate::read::close;
 use crate::read::read_some;
-ghost use Rattle.files.specs.Printed.{FrameNumber};
+ghost use mathlib.Core.Path.{_≡_};
+ghost use Rattle.files.specs.Printed.{FrameNumber, Penalties};
 
 // Reads a line for each place of the frame, and then whether a byte is left, and feeds them to the steps of `sheet`, which say what the file is refused
 // by and leave the frame's numbers. Returns that refusal, 0 where the file is taken.
 fn feed_file(fd: i32, frame: &mut [u16]) -> u8
     ensures { λ r. ⌜ FrameNumber r ⌝ }
+    ensures { λ r. ⌜ (r ≡ 0 → Penalties (now (frame .exit))) ⌝ }
 {
     let mut line = [0u8; 257];
     let mut verdict: u8 = 0;
@@ -26,6 +28,7 @@ fn feed_file(fd: i32, frame: &mut [u16]) -> u8
 // Reads frame.txt into the frame, which has 64 numbers for each place of the code. Returns the refusal, 0 where the file is taken.
 pub(crate) fn read_frame(frame: &mut [u16]) -> u8
     ensures { λ r. ⌜ FrameNumber r ⌝ }
+    ensures { λ r. ⌜ (r ≡ 0 → Penalties (now (frame .exit))) ⌝ }
 {
     let fd = os::open_read(b"frame.txt");
     let verdict = feed_file(fd, frame);

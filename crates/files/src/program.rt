@@ -7,7 +7,7 @@ use sheet::Answer;
 ghost use mathlib.Core.Path.{_≡_};
 ghost use Rattle.io.specs.Counts.{Counts};
 ghost use Rattle.sheet.specs.CodeSheet.{returned};
-ghost use Rattle.files.specs.Printed.{Printed, CodeRead};
+ghost use Rattle.files.specs.Printed.{Printed, FrameNumber, CodeRead};
 
 // The number of an answer of the sheet reader: that of the refusal, 0 for a sheet that was taken.
 fn refused_by(answer: Answer) -> u8
@@ -32,7 +32,7 @@ fn read_code(buf: &mut [u8]) -> usize
 // Runs the rest of the program with the code in two buffers that are longer than needed.
 fn run_code(n: usize, map: &[u8], coefs: &[u8]) -> u8
     requires { ⌜ CodeRead n (now map) (now coefs) ⌝ }
-    ensures { λ r. ⌜ Printed r ⌝ }
+    ensures { λ r. ⌜ FrameNumber r ⌝ }
 {
     let size = polar::place_count(n);
     let count = polar::kernel_count(n);
@@ -40,8 +40,8 @@ fn run_code(n: usize, map: &[u8], coefs: &[u8]) -> u8
 }
 
 // The program: reads code.txt, a code sheet, and frame.txt, a frame file for that code, decodes the frame at Qc = 5 and Qm = 13 and prints the
-// listing, or the number of the first refusal and nothing else. Returns 0 for a listing, or the number that was printed. A sheet of 6,405 bytes is the
-// longest that can be taken, so one byte more settles every verdict on a longer one.
+// listing, or the number of the first refusal and nothing else. Returns 0 for a listing, or the number that was printed. No sheet that is
+// taken has more than 6,405 bytes, and the first 6,406 of a longer one get the same verdict as all of it.
 pub fn run() -> u8
     ensures { λ r. ⌜ Printed r ⌝ }
 {

@@ -8,7 +8,7 @@ use native.Mathlib.Decide.{ℕ-discrete}
 use native.Mathlib.Omega.{arith}
 use lib.Dec.{lit<}
 use lib.IntN.{ℤ, pos}
-use lib.ListN.{length, getD, length-map}
+use lib.ListN.{length, getD, take, length-map}
 use lib.Pow.{pow-mono, pow-pos}
 use Rattle.refusal.specs.Table.{refusalOf}
 use Rattle.refusal.specs.Tests.{Within}
@@ -29,7 +29,8 @@ use Rattle.ccsk.proofs.NoiselessLaws.{sent-magnitude, samples-flat}
 use Rattle.decoder_refusal.specs.Refusals.{sizeTable, contentTable, decodeRefusal}
 use Rattle.decoder_refusal.proofs.RefusalLaws.{small-frame, zeros-frame, size-refused, size-taken}
 use Rattle.decoder_refusal.proofs.RefusalLaws as decode
-use Rattle.link.specs.Taken.{SpreadTakes, DemapTakes, DecodeTakes}
+use Rattle.sheet.proofs.SheetLaws.{code-read}
+use Rattle.link.specs.Taken.{SheetTakes, SpreadTakes, DemapTakes, DecodeTakes}
 
 -- ---- `spread` after `encode`
 module _ (n : ℕ) (map cs message before codeword : List ℕ) (e : Encoded n map cs message before codeword 0) where
@@ -209,3 +210,9 @@ decode-takes base top bottom qc samples before frame n map cs qm work symbols re
     is-frame = written-frame base top bottom qc samples before frame d;
   });
 }
+
+-- ---- `decode` after `read_sheet`
+pub sheet-takes : (bytes mapBefore coefsBefore map coefs : List ℕ) (n qc qm : ℕ) (frame work symbols report : List ℕ)
+    → SheetTakes bytes mapBefore coefsBefore map coefs n qc qm frame work symbols report
+sheet-takes bytes mapBefore coefsBefore map coefs n qc qm frame work symbols report read =
+    decode.code-numbers n (take (2 ^ n) map) (take (n * (2 ^ n / 2)) coefs) qc qm frame work symbols report (code-read read)

@@ -3,7 +3,8 @@ use Prim.Native.Nat.{ℕ, _+_, _^_}
 use mathlib.Core.Path.{_≡_}
 use mathlib.Core.List.{List, [], _∷_, _++_, map}
 use lib.IntN.{ℤ, pos, negℤ}
-use lib.ListN.{getD, set, replicate}
+use lib.ListN.{getD, take, set, replicate}
+use Rattle.refusal.specs.Table.{refusalOf}
 use Rattle.vector.specs.Vector.{tabulate}
 use Rattle.gf64.specs.Field.{_⊙_}
 use Rattle.polar.specs.Transform.{transform}
@@ -14,6 +15,9 @@ use Rattle.ccsk.specs.Spread.{spreadRefusal}
 use Rattle.ccsk.specs.Demap.{frameOf, demapRefusal}
 use Rattle.ccsk.specs.Noiseless.{sentSymbol}
 use Rattle.scms.specs.Decoder.{capOf, held, symbols, report, count}
+use Rattle.columns.specs.Columns.{line}
+use Rattle.sheet.specs.CodeSheet.{sheetLayers, sheetMap, sheetCoefs, formTable, sheetRefusal}
+use Rattle.listing.specs.Listing.{placeLine, numberLine}
 use Rattle.link.specs.Noiseless.{messageFrame, ChainInput, NoiselessPremise}
 
 -- samples +10 except chip 0 at −10
@@ -100,15 +104,56 @@ linkRows =
     ∷ record { given = messageOf (1 ∷ 0 ∷ []) (0 ∷ 33 ∷ []); expected = 33 ∷ [] }
     ∷ []
 
+-- the bytes of a first sheet line whose four columns end in these two: `   8`, `   9`, `  08`
+abbrev pub firstLine : (third fourth : ℕ) → List ℕ
+firstLine third fourth = 32 ∷ 32 ∷ third ∷ fourth ∷ 10 ∷ []
+
+-- the rows of the sheet reader on the first line: fewer than 5 bytes, a bad line, n outside 1 to 8
+abbrev pub firstRefusal : List ℕ → ℕ
+firstRefusal bytes = refusalOf (take 3 (formTable bytes))
+
+-- a first sheet line `   8` is taken, `   9` gives 1, `  08` gives 12
+abbrev pub lineRows : List Row
+lineRows =
+    record { given = firstRefusal (firstLine 32 56) ∷ sheetLayers (firstLine 32 56) ∷ []; expected = 0 ∷ 8 ∷ [] }
+    ∷ record { given = firstRefusal (firstLine 32 57) ∷ []; expected = 1 ∷ [] }
+    ∷ record { given = firstRefusal (firstLine 48 56) ∷ []; expected = 12 ∷ [] }
+    ∷ []
+
+-- the sheet `   1`, `   1`, `   0`, `   2` as it is written, and what the program prints for it and the frame above: for each place a line of four fields of
+-- five columns, and the clip count
+abbrev pub workedSheet : List ℕ
+workedSheet = line 4 (1 ∷ []) ++ (line 4 (1 ∷ []) ++ (line 4 (0 ∷ []) ++ line 4 (2 ∷ [])))
+
+abbrev pub listingRows : List Row
+listingRows =
+    let frame = zeroAt 33 3 ++ zeroAt 1 3 in
+    let llrs = held 1 (capOf 13) (2 ∷ []) (1 ∷ 0 ∷ []) frame in
+    let blanks : List ℕ = 32 ∷ 32 ∷ 32 ∷ 32 ∷ [] in
+    record {
+      given = workedSheet;
+      expected = 32 ∷ 32 ∷ 32 ∷ 49 ∷ 10 ∷ 32 ∷ 32 ∷ 32 ∷ 49 ∷ 10 ∷ 32 ∷ 32 ∷ 32 ∷ 48 ∷ 10 ∷ 32 ∷ 32 ∷ 32 ∷ 50 ∷ 10 ∷ [];
+    }
+    ∷ record { given = sheetRefusal workedSheet (0 ∷ 0 ∷ []) (0 ∷ []) ∷ sheetLayers workedSheet ∷ []; expected = 0 ∷ 1 ∷ [] }
+    ∷ record { given = sheetMap workedSheet; expected = 1 ∷ 0 ∷ [] }
+    ∷ record { given = sheetCoefs workedSheet; expected = 2 ∷ [] }
+    ∷ record { given = placeLine 0 0 (llrs 0); expected = blanks ++ (48 ∷ blanks ++ (48 ∷ blanks ++ (48 ∷ blanks ++ (51 ∷ 10 ∷ [])))) }
+    ∷ record { given = placeLine 1 33 (llrs 1); expected = blanks ++ (49 ∷ 32 ∷ 32 ∷ 32 ∷ 51 ∷ 51 ∷ blanks ++ (48 ∷ blanks ++ (54 ∷ 10 ∷ []))) }
+    ∷ record { given = numberLine (count 1 (capOf 13) (2 ∷ []) (1 ∷ 0 ∷ []) frame); expected = blanks ++ (48 ∷ 10 ∷ []) }
+    ∷ []
+
 -- all rows
 abbrev pub rows : List Row
 rows =
-    productRows ++ (transformRows ++ (baseRows ++ (gainRows ++ (decoderRows (capOf 1) ++ (decoderRows (capOf 13) ++ (sheetRows ++ linkRows))))))
+    productRows ++ (transformRows ++ (baseRows ++ (gainRows ++ (decoderRows (capOf 1) ++ (decoderRows (capOf 13) ++ (sheetRows ++ (linkRows ++ (lineRows ++ listingRows))))))))
 
 -- the claim over the whole table: every row's two sides are the same; those samples are what is sent for symbol 0 with amplitude 10; and with base 1,
--- amplitude 10 and Qc 3 the noiseless statement's premise fails for gain 1/40 and holds for gain 1/20, whatever code and message are sent
+-- amplitude 10 and Qc 3 the noiseless statement's premise fails for gain 1/40 and holds for gain 1/20, whatever code and message are sent; and whatever
+-- comes after the first line of a sheet and whatever buffers are lent, `   9` gives 1 and `  08` gives 12
 pub record Worked : Type 0 where
   pub rows-hold : map (λ (r : Row). r .given) rows ≡ map (λ (r : Row). r .expected) rows
   pub samples-sent : sentSymbol 1 10 0 ≡ workedSamples
   pub premise-fails : (n : ℕ) (frozen cs message : List ℕ) (qm : ℕ) → ChainInput n frozen cs message 1 10 1 40 3 qm → NoiselessPremise n frozen cs message 1 10 1 40 3 → ⊥
   pub premise-holds : (n : ℕ) (frozen cs message : List ℕ) (qm : ℕ) → ChainInput n frozen cs message 1 10 1 20 3 qm → NoiselessPremise n frozen cs message 1 10 1 20 3
+  pub nine-gives-1 : (rest frozen cs : List ℕ) → sheetRefusal (firstLine 32 57 ++ rest) frozen cs ≡ 1
+  pub zero-eight-gives-12 : (rest frozen cs : List ℕ) → sheetRefusal (firstLine 48 56 ++ rest) frozen cs ≡ 12

@@ -1,10 +1,11 @@
 -- No call of the chain refuses what the one before it answered. The premise of a statement is what the call before promises, with the answer 0, which is
 -- that it accepted; the conclusion is that the next call accepts, or by which numbers it does not refuse.
-use Prim.Native.Nat.{ℕ, _*_, _^_, _≤_, _<_}
+use Prim.Native.Nat.{ℕ, _*_, _/_, _^_, _≤_, _<_}
 use mathlib.Core.Path.{_≡_}
-use mathlib.Core.List.{List}
+use mathlib.Core.List.{List, [], _∷_}
 use lib.IntN.{ℤ, pos}
-use lib.ListN.{length, getD}
+use lib.ListN.{length, getD, take}
+use Rattle.refusal.specs.Table.{OneOf}
 use Rattle.refusal.specs.Tests.{Within}
 use Rattle.polar.specs.Code.{IsCode}
 use Rattle.polar.specs.Encode.{Encoded}
@@ -13,7 +14,16 @@ use Rattle.ccsk.specs.Spread.{spreadRefusal, Spread}
 use Rattle.ccsk.specs.Samples.{magnitude}
 use Rattle.ccsk.specs.Demap.{demapRefusal, Demapped}
 use Rattle.ccsk.specs.Noiseless.{numberSamples}
+use Rattle.sheet.specs.CodeSheet.{SheetRead}
+use Rattle.sheet.specs.declared.code_sheet.Answer.the-variants.{Layers}
 use Rattle.decoder_refusal.specs.Refusals.{decodeRefusal}
+
+-- a sheet that `read_sheet` took: `decode`, given n and the first N and n × N/2 bytes of the two buffers, does not refuse it by 1, 4, 5 or 6, whatever else it is
+-- given
+abbrev pub SheetTakes : (bytes mapBefore coefsBefore map coefs : List ℕ) (n qc qm : ℕ) (frame work symbols report : List ℕ) → Type 0
+SheetTakes bytes mapBefore coefsBefore map coefs n qc qm frame work symbols report =
+    SheetRead bytes mapBefore coefsBefore map coefs (Layers n)
+    → OneOf (decodeRefusal n (take (2 ^ n) map) (take (n * (2 ^ n / 2)) coefs) qc qm frame work symbols report) (0 ∷ 2 ∷ 3 ∷ 8 ∷ 9 ∷ [])
 
 -- `spread` takes the codeword that `encode` answered, for a base that 10 does not refuse and a buffer of one number for each symbol
 abbrev pub SpreadTakes : (n : ℕ) (map cs message before codeword : List ℕ) (base : ℕ) (numbers : List ℕ) → Type 0

@@ -12,7 +12,7 @@ use Rattle.columns.specs.Columns.{line}
 unfoldable pub heldFor : ℕ → List ℕ → ℕ
 heldFor value llrs = getD llrs value 0
 
--- the values 0 to 63 but for the symbol, in rising order: number j of them
+-- the values 0 to 63 but for the symbol, in rising order: number j of them. (For a number above 63, which is no symbol, they are 0 to 62.)
 unfoldable pub otherValue : (symbol j : ℕ) → ℕ
 otherValue symbol j = cond (ltb j symbol) j (suc j)
 

@@ -10,7 +10,7 @@ pub(crate) fn held_for(value: usize, llrs: &[u16]) -> u16
     if value < llrs.len() { llrs[value] } else { 0 }
 }
 
-// Number j of the values 0 to 63 but for the symbol, in rising order.
+// Number j of the values 0 to 63 but for the symbol, in rising order; for a number above 63 just j.
 fn other_value(symbol: usize, j: usize) -> usize
     requires { ⌜ j ≤ 62 ⌝ }
     ensures { λ r. ⌜ r ≡ otherValue symbol j ⌝ }
@@ -18,7 +18,7 @@ fn other_value(symbol: usize, j: usize) -> usize
     if j < symbol { j } else { j + 1 }
 }
 
-// The least penalty held for any of the 63 other values.
+// The least penalty held for any of the 63 other values; for a number above 63, which is no symbol, of the values 0 to 62.
 pub(crate) fn least_other(symbol: usize, llrs: &[u16]) -> u16
     ensures { λ r. ⌜ r ≡ leastOther symbol (now (llrs .entry)) ⌝ }
 {

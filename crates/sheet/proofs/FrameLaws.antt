@@ -7,21 +7,22 @@ use Prim.Native.Nat.{ℕ, zero, suc, _+_, _-_, _*_, _/_, _≤_, _<_}
 use native.Mathlib.Decide.{ℕ-discrete}
 use native.Mathlib.Nat.{mul-suc, mul-zero, le-refl, le-of-eq, zero-lt-suc}
 use native.Mathlib.Omega.{arith}
-use borrow.Author.Tests.{le-ltb, lt-ltb, ne-eqb, not-false}
+use borrow.Author.Tests.{le-ltb, lt-ltb, ne-eqb, eqb-false, not-false}
 use lib.Dec.{eqb, ltb, lit<}
 use lib.ListN.{length, take, drop, length-append, length-take, length-drop, drop-of-length-le}
 use lib.Seq.{take-all, take-at, drop-at, take-append-le, length-take-le, drop-append-add, drop-drop}
-use Rattle.refusal.specs.Table.{Row, refusalOf, OneOf, Numbered}
+use Rattle.refusal.specs.Table.{Row, refusalOf, OneOf, NoneFits, Numbered}
 use Rattle.refusal.specs.Tests.{outside, anyOutside, anyTo, unequal}
 use Rattle.refusal.proofs.Laws.{Finds, finds-refusal, taken-none, none-taken, first-refused, first-taken, when-taken, when-refused, refusal-has}
-use Rattle.refusal.proofs.Within.{true-false, equal-false, unequal-true}
+use Rattle.refusal.proofs.Within.{true-false, or-left, or-right, none-within, equal-false, unequal-true}
 use Rattle.refusal.proofs.AnyTo.{none-there, each-not, any-ext}
-use Rattle.vector.specs.Vector.{tabulate, joined, vectorAt}
+use Rattle.vector.specs.Vector.{tabulate, joined, vectorAt, AtMost, HasZero}
 use Rattle.vector.proofs.Laws.{length-tabulate, length-joined, joined-part}
 use Rattle.vector.proofs.SliceLaws.{vector-long}
 use Rattle.columns.specs.Reading.{spelled, part, numbers, isLine}
 use Rattle.columns.proofs.LineLaws.{line-long}
 use Rattle.decoder_refusal.specs.Refusals.{noZero, llrsRow, zerosRow, penaltyTable}
+use Rattle.decoder_refusal.proofs.RefusalLaws.{some-zero}
 use Rattle.sheet.specs.FrameLine.{lineRow, lineLlrs, lineTable, lineRefusal, lineOutput, LineRead}
 use Rattle.sheet.specs.FrameFile.{frameLine, frameLlrs, frameTable, frameVerdict, fedTable, lineVerdict, triedTable, firstTried, endVerdict, LineFed, fedVerdict, fedFrame, Fed}
 
@@ -256,14 +257,33 @@ module _ (bytes : List ℕ) where
 pub fed : (places : ℕ) (bytes frame : List ℕ) → length frame ≡ 64 * places → Fed places bytes frame
 fed places bytes frame long = record { verdict = fed-verdict bytes places; llrs = fed-llrs bytes places frame long }
 
+-- one step of that is one call of `feed_line`: from the verdict and the buffer after k lines to those after one line more
+pub fed-step : (k : ℕ) (bytes frame : List ℕ) {after : List ℕ} {r : ℕ} → LineFed (fedVerdict bytes k) (part 257 k bytes) (vectorAt (fedFrame bytes k frame) k) after r
+    → length (vectorAt (fedFrame bytes k frame) k) ≡ 64
+    → (r ≡ fedVerdict bytes (suc k))
+    × (take (64 * k) (fedFrame bytes k frame) ++ (after ++ drop (64 * k + 64) (fedFrame bytes k frame)) ≡ fedFrame bytes (suc k) frame)
+unfolding fedVerdict fedFrame
+fed-step k bytes frame step long = (
+  step .answer ∙ ap (λ (j : ℕ). firstTried (fedVerdict bytes k) (lineVerdict j (part 257 k bytes))) long,
+  ap (λ (xs : List ℕ). take (64 * k) (fedFrame bytes k frame) ++ (xs ++ drop (64 * k + 64) (fedFrame bytes k frame))) (step .llrs-are),
+)
+
 -- ---- the numbers that a file can be refused by
 
--- a line with an output of 64 numbers is not refused by 2
-line-number : (bytes : List ℕ) → lineVerdict 64 bytes ≡ 2 → ⊥
+-- the verdict on a line with an output of 64 numbers
+line-numbers : (bytes : List ℕ) → OneOf (lineVerdict 64 bytes) (0 ∷ 12 ∷ 8 ∷ 9 ∷ [])
 unfolding lineVerdict unequal
-line-number bytes =
-    refusal-has (λ k. k ≡ 2 → ⊥) (λ q. absurd (omega arith)) (fedTable 64 bytes)
-    ((λ e. absurd (true-false (sym e))), ((λ e q. absurd (omega arith)), ((λ e q. absurd (omega arith)), ((λ e q. absurd (omega arith)), tt))))
+line-numbers bytes =
+    refusal-has (λ k. OneOf k (0 ∷ 12 ∷ 8 ∷ 9 ∷ [])) (inl refl) (fedTable 64 bytes)
+    ((λ e. absurd (true-false (sym e))), ((λ e. inr (inl refl)), ((λ e. inr (inr (inl refl))), ((λ e. inr (inr (inr (inl refl)))), tt))))
+
+-- none of these is 2
+not-two : (v : ℕ) → OneOf v (0 ∷ 12 ∷ 8 ∷ 9 ∷ []) → v ≡ 2 → ⊥
+not-two v (inl q) z = absurd (omega arith)
+not-two v (inr (inl q)) z = absurd (omega arith)
+not-two v (inr (inr (inl q))) z = absurd (omega arith)
+not-two v (inr (inr (inr (inl q)))) z = absurd (omega arith)
+not-two v (inr (inr (inr (inr q)))) z = absurd q
 
 -- of two verdicts that are not 2, the one that is tried first
 tried-number : (a b : ℕ) → (a ≡ 2 → ⊥) → (b ≡ 2 → ⊥) → OneOf (firstTried a b) (0 ∷ 12 ∷ 8 ∷ 9 ∷ [])
@@ -274,24 +294,84 @@ tried-number a b h k =
       ((λ e. inr (inl refl)), ((λ e. inr (inr (inl refl))), ((λ e. inr (inr (inr (inl refl)))), tt))),
     )
 
--- the verdict after one line more, with an output of 64 numbers, is not 2 if that before is not
-pub fed-number : {verdict r : ℕ} {bytes llrs after : List ℕ} → LineFed verdict bytes llrs after r → length llrs ≡ 64 → (verdict ≡ 2 → ⊥) → r ≡ 2 → ⊥
-fed-number {verdict} {r} {bytes} fed long h e =
-    go (tried-number verdict (lineVerdict 64 bytes) h (line-number bytes))
-    (sym (fed .answer ∙ ap (λ (k : ℕ). firstTried verdict (lineVerdict k bytes)) long) ∙ e)
-  where
-    go : OneOf (firstTried verdict (lineVerdict 64 bytes)) (0 ∷ 12 ∷ 8 ∷ 9 ∷ []) → firstTried verdict (lineVerdict 64 bytes) ≡ 2 → ⊥
-    go (inl q) z = absurd (omega arith)
-    go (inr (inl q)) z = absurd (omega arith)
-    go (inr (inr (inl q))) z = absurd (omega arith)
-    go (inr (inr (inr (inl q)))) z = absurd (omega arith)
-    go (inr (inr (inr (inr q)))) z = absurd q
+-- the verdict after one line more, with an output of 64 numbers
+pub fed-number : {verdict r : ℕ} {bytes llrs after : List ℕ} → LineFed verdict bytes llrs after r → length llrs ≡ 64
+    → OneOf verdict (0 ∷ 12 ∷ 8 ∷ 9 ∷ []) → OneOf r (0 ∷ 12 ∷ 8 ∷ 9 ∷ [])
+fed-number {verdict} {r} {bytes} fed long o =
+    subst (λ (k : ℕ). OneOf k (0 ∷ 12 ∷ 8 ∷ 9 ∷ [])) (sym (fed .answer ∙ ap (λ (k : ℕ). firstTried verdict (lineVerdict k bytes)) long))
+    (tried-number verdict (lineVerdict 64 bytes) (not-two verdict o) (not-two (lineVerdict 64 bytes) (line-numbers bytes)))
 
 -- and so the verdict on the file is one of 12, 8 and 9, or 0
-pub end-number : (verdict : ℕ) (more : Bool) → (verdict ≡ 2 → ⊥) → OneOf (endVerdict verdict more) (0 ∷ 12 ∷ 8 ∷ 9 ∷ [])
+pub end-number : (verdict : ℕ) (more : Bool) → OneOf verdict (0 ∷ 12 ∷ 8 ∷ 9 ∷ []) → OneOf (endVerdict verdict more) (0 ∷ 12 ∷ 8 ∷ 9 ∷ [])
 unfolding endVerdict
-end-number verdict more h = tried-number verdict (cond more 12 0) h (other more)
+end-number verdict more o = tried-number verdict (cond more 12 0) (not-two verdict o) (other more)
   where
     other : (t : Bool) → _≡_ {A = ℕ} (cond t 12 0) 2 → ⊥
     other true q = absurd (omega arith)
     other false q = absurd (omega arith)
+
+-- ---- what a verdict of 0 says of the numbers that a line left
+
+-- of the numbers 0, 12, 8 and 9, one that is none of the last three is 0
+only-zero : (v : ℕ) → OneOf v (0 ∷ 12 ∷ 8 ∷ 9 ∷ []) → (v ≡ 12 → ⊥) → (v ≡ 8 → ⊥) → (v ≡ 9 → ⊥) → v ≡ 0
+only-zero v (inl q) a b c = q
+only-zero v (inr (inl q)) a b c = absurd (a q)
+only-zero v (inr (inr (inl q))) a b c = absurd (b q)
+only-zero v (inr (inr (inr (inl q)))) a b c = absurd (c q)
+only-zero v (inr (inr (inr (inr q)))) a b c = absurd q
+
+-- where the first tried of two such verdicts is 0, both are
+both-zero : (a b : ℕ) → OneOf a (0 ∷ 12 ∷ 8 ∷ 9 ∷ []) → OneOf b (0 ∷ 12 ∷ 8 ∷ 9 ∷ []) → firstTried a b ≡ 0 → (a ≡ 0) × (b ≡ 0)
+unfolding firstTried
+both-zero a b oa ob e =
+    let rows = taken-none (triedTable a b) (lit< tt, (lit< tt, (lit< tt, (lit< tt, tt)))) e in (
+      only-zero a oa (left-not 12 (rows .1 .0)) (left-not 8 (rows .1 .1 .0)) (left-not 9 (rows .1 .1 .1 .0)),
+      only-zero b ob (right-not 12 (rows .1 .0)) (right-not 8 (rows .1 .1 .0)) (right-not 9 (rows .1 .1 .1 .0)),
+    )
+  where
+    left-not : (k : ℕ) → eqb a k || eqb b k ≡ false → a ≡ k → ⊥
+    left-not k q = eqb-false a k (or-left (eqb a k) (eqb b k) q)
+
+    right-not : (k : ℕ) → eqb a k || eqb b k ≡ false → b ≡ k → ⊥
+    right-not k q = eqb-false b k (or-right (eqb a k) (eqb b k) q)
+
+-- a line that no row refuses leaves 64 penalties of at most 31, a 0 among them
+module _ (bytes llrs : List ℕ) (long : length llrs ≡ 64) (e : lineVerdict 64 bytes ≡ 0) where
+  none-fits : NoneFits (fedTable 64 bytes)
+  unfolding lineVerdict
+  none-fits = taken-none (fedTable 64 bytes) (lit< tt, (lit< tt, (lit< tt, (lit< tt, tt)))) e
+
+  output-is : lineOutput bytes llrs ≡ lineLlrs bytes
+  unfolding lineRefusal
+  output-is = output-taken bytes llrs (none-taken (lineTable bytes llrs) (equal-false (length llrs) 64 long, (none-fits .1 .0, tt)))
+
+  small : AtMost 31 (lineLlrs bytes)
+  small b l =
+      let size = length-llrs bytes [] in
+      none-within 0 31 0 (lineLlrs bytes) (none-fits .1 .1 .0) b (omega arith) .most
+
+  has-zero : HasZero (lineLlrs bytes)
+  unfolding anyTo vectorAt
+  has-zero =
+      let size = length-llrs bytes [] in
+      let z = some-zero (lineLlrs bytes) (ap noZero (sym (take-all 64 (lineLlrs bytes) (le-of-eq size))) ∙ none-fits .1 .1 .1 .0) in
+      let in-vector = z .1 in
+      record { zero-at = z .0; within = omega arith; is-zero = z .2 }
+
+-- the step of a line with an output of 64 numbers, where the verdict after it is 0: it was 0 before, and the output holds penalties at Qc = 5
+pub fed-penalties : {verdict r : ℕ} {bytes llrs after : List ℕ} → LineFed verdict bytes llrs after r → length llrs ≡ 64
+    → OneOf verdict (0 ∷ 12 ∷ 8 ∷ 9 ∷ []) → r ≡ 0 → (verdict ≡ 0) × (length after ≡ 64) × AtMost 31 after × HasZero after
+fed-penalties {verdict} {r} {bytes} {llrs} {after} fed long o z =
+    let tried = sym (fed .answer ∙ ap (λ (k : ℕ). firstTried verdict (lineVerdict k bytes)) long) ∙ z in
+    let both = both-zero verdict (lineVerdict 64 bytes) o (line-numbers bytes) tried in
+    let is = sym (fed .llrs-are ∙ output-is bytes llrs long (both .1)) in
+    (both .0, ap length (sym is) ∙ length-llrs bytes [], subst (AtMost 31) is (small bytes llrs long (both .1)), subst HasZero is (has-zero bytes llrs long (both .1)))
+
+-- and where the verdict at the end is 0, it was 0 after the last line
+pub end-zero : (verdict : ℕ) (more : Bool) → OneOf verdict (0 ∷ 12 ∷ 8 ∷ 9 ∷ []) → endVerdict verdict more ≡ 0 → verdict ≡ 0
+unfolding endVerdict
+end-zero verdict more o e = both-zero verdict (cond more 12 0) o (ends more) e .0
+  where
+    ends : (t : Bool) → OneOf (cond t 12 0) (0 ∷ 12 ∷ 8 ∷ 9 ∷ [])
+    ends true = inr (inl refl)
+    ends false = inl refl

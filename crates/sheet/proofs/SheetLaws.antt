@@ -5,28 +5,28 @@ use mathlib.Core.Bool.{Bool, true, false, not, _||_}
 use mathlib.Core.List.{List, [], _∷_, _++_}
 use Prim.Native.Nat.{ℕ, zero, suc, _+_, _-_, _*_, _/_, _^_, _<_, _≤_}
 use native.Mathlib.Nat.{le-of-suc-le-suc, not-suc-le-zero, zero-add, mul-le-mul-right}
-use native.Mathlib.Decide.{ℕ-discrete}
+use native.Mathlib.Decide.{ℕ-discrete, decLt}
 use native.Mathlib.Omega.{arith}
 use borrow.Author.Tests.{ne-eqb, ltb-false, le-ltb}
-use lib.Dec.{eqb, lit≤, lit<}
+use lib.Dec.{eqb, ltb, lit≤, lit<}
 use lib.ListN.{length, getD, take, drop, length-append}
 use lib.Pow.{pow-mono}
-use lib.Seq.{take-take, take-at}
+use lib.Seq.{length-take-le, take-all, take-take, take-at}
 use Rattle.refusal.specs.Table.{refusalOf, OneOf, NoneFits, Numbered}
 use Rattle.refusal.specs.Returned.{Returned}
 use Rattle.refusal.specs.Tests.{outside, anyOutside, Within}
-use Rattle.refusal.proofs.Laws.{taken-none, none-taken, first-refused, first-taken, taken-both, when-taken, when-refused, refusal-has}
-use Rattle.refusal.proofs.Within.{not-both, or-left, or-right, or-true-right, inside-within, false-equal, equal-false}
+use Rattle.refusal.proofs.Laws.{here, later, finds-refusal, taken-none, none-taken, first-refused, first-taken, both-taken, taken-both, when-taken, when-refused, refusal-has}
+use Rattle.refusal.proofs.Within.{not-both, or-left, or-right, or-true-right, inside-within, false-equal, equal-false, unequal-true}
 use Rattle.polar.specs.Code.{kindOf, messageCount, messagePlaces, IsCode}
 use Rattle.polar.proofs.CodeLaws.{rows-code}
 use Rattle.vector.specs.Vector.{tabulate}
 use Rattle.vector.proofs.Laws.{length-tabulate, getD-tabulate}
-use Rattle.columns.specs.Reading.{spelled, part}
+use Rattle.columns.specs.Reading.{spelled, part, isLine}
 use Rattle.columns.proofs.LineLaws.{lent-part}
-use Rattle.sheet.specs.CodeSheet.{numberOn, numbersOn, sheetLayers, sheetPlaces, sheetKernels, sheetLines, sheetMap, sheetCoefs, formTable, contentTable, sheetRefusal, returned, sheetAnswer, mapRead, coefsRead, SheetRead}
+use Rattle.sheet.specs.CodeSheet.{badLine, numberOn, numbersOn, sheetLayers, sheetPlaces, sheetKernels, sheetLines, sheetMap, sheetCoefs, formTable, contentTable, sheetTable, sheetRefusal, returned, sheetAnswer, mapRead, coefsRead, SheetRead}
 use Rattle.sheet.specs.declared.code_sheet.Answer.{Answer}
 use Rattle.sheet.specs.declared.code_sheet.Answer.the-variants.{Layers, Refused}
-use Rattle.sheet.specs.Parts.{Lines, Formed, Bytes}
+use Rattle.sheet.specs.Parts.{Lines, Formed, NumbersGiven}
 
 -- the number on a line as it is lent: five bytes, of which four columns are read
 pub lent-number : (i : ℕ) (bytes : List ℕ) → spelled (take 4 (take (5 * i + 5 - 5 * i) (drop (5 * i) bytes))) ≡ numberOn i bytes
@@ -131,9 +131,14 @@ module _ (bytes map coefs : List ℕ) where
   unfolding sheetRefusal
   form-taken e z f = first-taken (formTable bytes) (contentTable bytes map coefs) (form-numbered bytes) (sym e ∙ z) f
 
+  -- a sheet that no row refuses is taken
+  pub sheet-takes : NoneFits (formTable bytes) → NoneFits (contentTable bytes map coefs) → sheetRefusal bytes map coefs ≡ 0
+  unfolding sheetRefusal
+  sheet-takes f c = both-taken (formTable bytes) (contentTable bytes map coefs) f c
+
   module _ (e : sheetRefusal bytes map coefs ≡ 0) where
-    -- no row fits
-    rows : NoneFits (formTable bytes) × NoneFits (contentTable bytes map coefs)
+    -- and no row refuses a sheet that is taken
+    pub rows : NoneFits (formTable bytes) × NoneFits (contentTable bytes map coefs)
     unfolding sheetRefusal
     rows = taken-both (formTable bytes) (contentTable bytes map coefs) (form-numbered bytes) content-numbered e
 
@@ -181,13 +186,13 @@ module _ (bytes map coefs : List ℕ) where
         omega arith
 
     -- what `write_numbers` is given, for the map and for the coefficients
-    pub map-given : (out : List ℕ) → length out ≡ sheetPlaces bytes → Bytes 1 bytes out
+    pub map-given : (out : List ℕ) → length out ≡ sheetPlaces bytes → NumbersGiven 1 bytes out
     map-given out q = record {
       lines = subst (λ (k : ℕ). Lines 1 k bytes) (sym q) (map-lines bytes (sheetLayers bytes) lines);
       small = λ i l. map-bytes i (omega arith);
     }
 
-    pub coefs-given : (out : List ℕ) → length out ≡ sheetKernels bytes → Bytes (1 + sheetPlaces bytes) bytes out
+    pub coefs-given : (out : List ℕ) → length out ≡ sheetKernels bytes → NumbersGiven (1 + sheetPlaces bytes) bytes out
     coefs-given out q = record {
       lines = subst (λ (k : ℕ). Lines (1 + sheetPlaces bytes) k bytes) (sym q) (coef-lines bytes (sheetLayers bytes) lines);
       small = λ i l. coefs-bytes i (omega arith);
@@ -309,3 +314,67 @@ module _ {bytes map coefs m c : List ℕ} {n : ℕ} (read : SheetRead bytes map 
 pub number-read : {bytes map coefs m c : List ℕ} {r : Answer} → SheetRead bytes map coefs m c r → returned r .number ≡ sheetRefusal bytes map coefs
 unfolding sheetAnswer
 number-read read = ap (λ (x : Returned). x .number) (read .answer)
+
+-- ---- the first 6,406 bytes of a sheet get the verdict that the whole sheet gets
+module _ (bytes : List ℕ) where
+  -- they have the same first line
+  same-line : part 5 0 (take 6406 bytes) ≡ part 5 0 bytes
+  unfolding part
+  same-line = take-take 5 6406 bytes (lit≤ tt)
+
+  same-n : sheetLayers (take 6406 bytes) ≡ sheetLayers bytes
+  unfolding numberOn
+  same-n = ap (λ (xs : List ℕ). spelled (take 4 xs)) same-line
+
+  same-first : badLine 0 (take 6406 bytes) ≡ badLine 0 bytes
+  unfolding badLine
+  same-first = ap (λ (xs : List ℕ). not (isLine 4 1 xs)) same-line
+
+  -- no sheet of more than 6,405 bytes has the right length
+  too-long : Within 1 8 (sheetLayers bytes) → (long : ℕ) → 6406 ≤ long → long ≡ 5 * sheetLines bytes → ⊥
+  too-long w long l e =
+      let few = w .most in
+      let size = pow-mono {i = sheetLayers bytes} {j = 8} few in
+      let count = mul-le-mul-right (sheetPlaces bytes / 2) few in
+      absurd (omega arith)
+
+  module _ (map coefs : List ℕ) where
+    -- a longer sheet
+    cut : 6406 ≤ length bytes → sheetRefusal (take 6406 bytes) map coefs ≡ sheetRefusal bytes map coefs
+    unfolding sheetRefusal
+    cut l = first (badLine 0 bytes) refl
+      where
+        long : length (take 6406 bytes) ≡ 6406
+        long = length-take-le 6406 bytes l
+
+        -- both walks go past the first row
+        there : ltb (length bytes) 5 ≡ false
+        there = le-ltb (length bytes) 5 (omega arith)
+
+        cut-there : ltb (length (take 6406 bytes)) 5 ≡ false
+        cut-there = le-ltb (length (take 6406 bytes)) 5 (let e = long in omega arith)
+
+        -- and end at the same row
+        layers : badLine 0 bytes ≡ false → (t : Bool) → outside 1 8 (sheetLayers bytes) ≡ t
+            → refusalOf (sheetTable (take 6406 bytes) map coefs) ≡ refusalOf (sheetTable bytes map coefs)
+        layers b true q =
+            finds-refusal (later cut-there (later (same-first ∙ b) (here (ap (outside 1 8) same-n ∙ q))))
+            ∙ sym (finds-refusal {rs = sheetTable bytes map coefs} (later there (later b (here q))))
+        layers b false q =
+            let w = inside-within 1 8 (sheetLayers bytes) q in
+            let short : (length (take 6406 bytes) ≡ 5 * sheetLines (take 6406 bytes)) → ⊥ = λ e.
+            too-long w (length (take 6406 bytes)) (let cut-long = long in omega arith) (e ∙ ap (λ (n : ℕ). 5 * (1 + 2 ^ n + n * (2 ^ n / 2))) same-n) in
+            finds-refusal (later cut-there (later (same-first ∙ b) (later (ap (outside 1 8) same-n ∙ q) (here (unequal-true _ _ short)))))
+            ∙ sym (finds-refusal {rs = sheetTable bytes map coefs} (later there (later b (later q (here (unequal-true _ _ (too-long w (length bytes) l)))))))
+
+        first : (t : Bool) → badLine 0 bytes ≡ t → refusalOf (sheetTable (take 6406 bytes) map coefs) ≡ refusalOf (sheetTable bytes map coefs)
+        first true b =
+            finds-refusal (later cut-there (here (same-first ∙ b))) ∙ sym (finds-refusal {rs = sheetTable bytes map coefs} (later there (here b)))
+        first false b = layers b (outside 1 8 (sheetLayers bytes)) refl
+
+    pub start-decides : sheetRefusal (take 6406 bytes) map coefs ≡ sheetRefusal bytes map coefs
+    start-decides = go (decLt (length bytes) 6406)
+      where
+        go : Dec (length bytes < 6406) → sheetRefusal (take 6406 bytes) map coefs ≡ sheetRefusal bytes map coefs
+        go (yes l) = ap (λ (xs : List ℕ). sheetRefusal xs map coefs) (take-all 6406 bytes (omega arith))
+        go (no h) = cut (omega arith)

@@ -48,7 +48,7 @@ lineVerdict long bytes = refusalOf (fedTable long bytes)
 abbrev pub triedTable : (a b : ℕ) → List Row
 triedTable a b = (2, eqb a 2 || eqb b 2) ∷ (12, eqb a 12 || eqb b 12) ∷ (8, eqb a 8 || eqb b 8) ∷ (9, eqb a 9 || eqb b 9) ∷ []
 
--- of two verdicts the one that is tried first
+-- of two verdicts the one that is tried first. A number that is none of the four counts as 0
 unfoldable pub firstTried : (a b : ℕ) → ℕ
 firstTried a b = refusalOf (triedTable a b)
 
@@ -56,7 +56,7 @@ firstTried a b = refusalOf (triedTable a b)
 unfoldable pub endVerdict : ℕ → Bool → ℕ
 endVerdict soFar left = firstTried soFar (cond left 12 0)
 
--- What `feed_line` promises, for every input: its answer r, the verdict on this line and what was read before; and the output at exit
+-- What `feed_line` promises, for every input, any number for the verdict so far included: its answer r, the verdict on this line and what was read before; and the output at exit
 pub record LineFed (soFar : ℕ) (bytes llrs llrsAfter : List ℕ) (r : ℕ) : Type 0 where
   pub answer : r ≡ firstTried soFar (lineVerdict (length llrs) bytes)
   pub llrs-are : llrsAfter ≡ lineOutput bytes llrs

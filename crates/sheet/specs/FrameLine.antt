@@ -1,7 +1,7 @@
 -- One line of a frame file: 64 numbers in four columns each, and a line feed.
 use Prim.Native.Nat.{ℕ}
 use mathlib.Core.Path.{_≡_}
-use mathlib.Core.Bool.{true, not, cond}
+use mathlib.Core.Bool.{not, cond}
 use mathlib.Core.List.{List, [], _∷_}
 use lib.Dec.{eqb}
 use lib.ListN.{length}
@@ -34,8 +34,3 @@ module _ (bytes llrs : List ℕ) where
   pub record LineRead (llrsAfter : List ℕ) (r : ℕ) : Type 0 where
     pub answer : r ≡ lineRefusal
     pub llrs-are : llrsAfter ≡ lineOutput
-
-  -- what `write_llrs` is given
-  pub record FrameLine : Type 0 where
-    pub is-line : isLine 4 64 bytes ≡ true
-    pub long : length llrs ≡ 64

@@ -6,7 +6,7 @@ use polar::place_count;
 ghost use mathlib.Core.Path.{_≡_};
 ghost use lib.ListN.{length};
 ghost use Rattle.sheet.specs.CodeSheet.{numbersOn, SheetRead};
-ghost use Rattle.sheet.specs.Parts.{Bytes};
+ghost use Rattle.sheet.specs.Parts.{NumbersGiven};
 
 // What `read_sheet` answers: n, or the number of the refusal.
 pub enum Answer {
@@ -16,7 +16,7 @@ pub enum Answer {
 
 // Writes the numbers on the lines from line `first` on, one for each byte of `out`.
 fn write_numbers(bytes: &[u8], first: usize, out: &mut [u8])
-    requires { ⌜ Bytes first (now bytes) (now out) ⌝ }
+    requires { ⌜ NumbersGiven first (now bytes) (now out) ⌝ }
     ensures { λ _. ⌜ now (out .exit) ≡ numbersOn first (length (now (out .entry))) (now (bytes .entry)) ⌝ }
 {
     let mut i: usize = 0;

@@ -3,11 +3,12 @@ use crate::line::is_line;
 use crate::number::spelled_number;
 ghost use mathlib.Core.Path.{_≡_};
 ghost use Rattle.columns.specs.Reading.{numbers};
-ghost use Rattle.sheet.specs.FrameLine.{FrameLine, LineRead};
+ghost use Rattle.sheet.specs.FrameLine.{LineRead};
+ghost use Rattle.sheet.specs.Parts.{LineGiven};
 
 // Writes the 64 numbers of a line.
 fn write_llrs(line: &[u8], llrs: &mut [u16])
-    requires { ⌜ FrameLine (now line) (now llrs) ⌝ }
+    requires { ⌜ LineGiven (now line) (now llrs) ⌝ }
     ensures { λ _. ⌜ now (llrs .exit) ≡ numbers 4 64 (now (line .entry)) ⌝ }
 {
     let mut i: usize = 0;

@@ -11,7 +11,7 @@ ghost use Rattle.refusal.specs.Tests.{anyOutside, anyTo};
 ghost use Rattle.sheet.specs.CodeSheet.{badLine, numbersOn, formTable, contentTable, sheetLayers, sheetRefusal};
 ghost use Rattle.sheet.specs.Parts.{Lines, Formed};
 
-// Whether one of the lines of five bytes is not one number in four columns and a line feed.
+// Whether one of the lines of five bytes is not one number in four columns and a line feed. Bytes after the last whole line are not looked at.
 fn any_bad_line(bytes: &[u8]) -> bool
     ensures { λ r. ⌜ r ≡ anyTo (length (now (bytes .entry)) / 5) (λ i. badLine i (now (bytes .entry))) ⌝ }
 {
@@ -69,7 +69,7 @@ fn any_number_outside(bytes: &[u8], first: usize, count: usize, low: u32, high: 
 }
 
 // The refusal by the lengths of the buffers and by the numbers of the map and the coefficients, 0 where none of them is wrong. Where no number of
-// the map is above 1, no place is a message place where all of them are 1.
+// the map is above 1, no place is a message place exactly when all of them are 1.
 fn content_refusal(n: usize, bytes: &[u8], map: &[u8], coefs: &[u8]) -> u8
     requires { ⌜ Formed n (now bytes) ⌝ }
     ensures { λ r. ⌜ r ≡ refusalOf (contentTable (now (bytes .entry)) (now (map .entry)) (now (coefs .entry))) ⌝ }

@@ -1,8 +1,9 @@
-// Prints rows that document 01 works by hand, and round trips that send the frame of one of them, as the calls give them.
+// Prints rows that document 01 works by hand, and round trips that send the frame of one of them, as the calls give them; and last its first sheet lines.
 mod chips;
 mod decoding;
 mod encoding;
 mod print;
+mod sheets;
 mod trips;
 
 fn main() {
@@ -10,4 +11,5 @@ fn main() {
     chips::print_rows();
     decoding::print_rows();
     trips::print_rows();
+    sheets::print_rows();
 }

@@ -1,9 +1,8 @@
 -- `decode_and_print` meets its contract.
 use mathlib.Core.Path.{refl, _∙_}
-use mathlib.Core.Logic.{inl}
 use native.Mathlib.Omega.{arith}
 use lib.Pow.{pow-mono}
-use Rattle.files.proofs.PrintedLaws.{decoder-printed}
+use Rattle.files.proofs.PrintedLaws.{decoded-zero}
 use borrow.Author.Needs.{needs}
 use Rattle.files.proofs.decoding.decode_and_print.Statement.{statement}
 use Rattle.files.proofs.decoding.decode_and_print.Tie as tie
@@ -39,14 +38,14 @@ same-length-3 c = search needs
 returns : tie.Need-returns
 returns c =
     let done = c .before .before .before .before .before .before .before .before .before .before in
-    decoder-printed (start done .pre) (done .decode .ensures) (c .print-refusal .result) (c .print-refusal .ensures ∙ c .before .refused-by .ensures)
+    c .print-refusal .ensures ∙ c .before .refused-by .ensures ∙ decoded-zero (start done .pre) (done .decode .ensures)
 
 print-listing-requires : tie.Need-print-listing-requires
 print-listing-requires c κs =
     let done = c .before .before .before .before .before .before .before .before .before .before .before in
     let kept = done .decode .kept .1 .1 .1 .1 .1 .1 .1 .0 in
     let long = start done .pre .symbols-long in
-    let few = pow-mono {i = start done .args .n} {j = 8} (start done .pre .given .code .layers .most) in
+    let few = pow-mono {i = start done .args .n} {j = 8} (start done .pre .taken .given .code .layers .most) in
     omega arith
 
 same-length-4 : tie.Need-same-length-4
@@ -59,7 +58,7 @@ same-length-6 : tie.Need-same-length-6
 same-length-6 c = search needs
 
 returns-2 : tie.Need-returns-2
-returns-2 c = inl refl
+returns-2 c = refl
 
 pub decode-and-print-spec : {M : Type 1} → statement M
 decode-and-print-spec =

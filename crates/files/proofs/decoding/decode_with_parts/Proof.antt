@@ -12,8 +12,8 @@ use Rattle.files.proofs.decoding.decode_with_parts.Tie as tie
 -- the map has at most 256 places
 few : (s : tie.Start) → length (s .args .map .now) ≤ 256
 few s =
-    let long = s .pre .given .code .map-long in
-    let size = pow-mono {i = s .args .n} {j = 8} (s .pre .given .code .layers .most) in
+    let long = s .pre .taken .given .code .map-long in
+    let size = pow-mono {i = s .args .n} {j = 8} (s .pre .taken .given .code .layers .most) in
     omega arith
 
 -- so the buffers have room for the parts
@@ -67,9 +67,9 @@ slice-aggregate-decode-and-print-3 c = sym (report-part (start (c .before .befor
 decode-and-print-requires : tie.Need-decode-and-print-requires
 decode-and-print-requires c κs =
     let s = start (c .before .before .before) in
-    let long = s .pre .given .code .map-long in
+    let long = s .pre .taken .given .code .map-long in
     record {
-      given = s .pre .given;
+      taken = s .pre .taken;
       work-long = work-part s ∙ ap (λ (k : ℕ). 65 * k) long;
       symbols-long = symbols-part s ∙ long;
       report-long = report-part s ∙ ap (λ (k : ℕ). 64 * k) long;

@@ -1,8 +1,8 @@
 -- `read_and_decode` meets its contract.
 use mathlib.Core.Path.{_∙_, subst, sym}
+use mathlib.Core.Logic.{inl}
 use Prim.Native.Nat.{ℕ}
 use Rattle.files.specs.Printed.{FrameNumber}
-use Rattle.files.proofs.PrintedLaws.{frame-printed}
 use borrow.Author.Needs.{needs}
 use Rattle.files.proofs.decoding.read_and_decode.Statement.{statement}
 use Rattle.files.proofs.decoding.read_and_decode.Tie as tie
@@ -19,16 +19,22 @@ same-length c = search needs
 returns : tie.Need-returns
 returns c =
     let read = c .before .before .before .before in
-    frame-printed (c .print-refusal .result) (subst FrameNumber (sym (c .print-refusal .ensures)) (read .read-frame .ensures))
+    subst FrameNumber (sym (c .print-refusal .ensures)) (read .read-frame .ensures .0)
 
 decode-frame-requires : tie.Need-decode-frame-requires
-decode-frame-requires c κs = search needs
+decode-frame-requires c κs =
+    let read = c .before .before .before .before in
+    let start = read .before .before .before .before .before in
+    record {
+      given = record { code = start .pre .code; frame-long = read .read-frame .kept .0 ∙ start .pre .frame-long };
+      penalties = read .read-frame .ensures .1 (c .before .if1 .left);
+    }
 
 same-length-2 : tie.Need-same-length-2
 same-length-2 c = search needs
 
 returns-2 : tie.Need-returns-2
-returns-2 c = search needs
+returns-2 c = inl (c .decode-frame .ensures)
 
 pub read-and-decode-spec : {M : Type 1} → statement M
 read-and-decode-spec =

@@ -1,27 +1,29 @@
 -- `feed_file` meets its contract: the verdict so far is not 2.
 use mathlib.Core.Path.{_≡_, refl, sym, ap, _∙_, subst}
-use mathlib.Core.List.{[], _∷_}
+use mathlib.Core.Logic.{inl}
 use borrow.Rule.Slice.PartMut.{same-len-mid}
-use Prim.Native.Nat.{ℕ, _+_, _*_, _/_, _-_, _≤_}
+use Prim.Native.Nat.{ℕ, _+_, _*_, _/_, _-_, _≤_, _<_}
+use native.Mathlib.Nat.{not-suc-le-zero}
 use native.Mathlib.Omega.{arith}
 use lib.ListN.{length}
 use lib.Seq.{length-take-le}
-use Rattle.refusal.specs.Table.{OneOf}
-use Rattle.sheet.proofs.FrameLaws.{fed-number, end-number}
-use Rattle.files.proofs.PartLaws.{place-long}
+use Rattle.vector.specs.Vector.{vectorAt, AtMost, HasZero}
+use Rattle.files.specs.Printed.{FrameNumber}
+use Rattle.sheet.proofs.FrameLaws.{fed-number, end-number, fed-penalties, end-zero}
+use Rattle.files.proofs.PartLaws.{place-long, penalties-more}
 use borrow.Author.Needs.{needs}
 use Rattle.files.proofs.frame.feed_file.Statement.{statement}
 use Rattle.files.proofs.frame.feed_file.Tie as tie
 
 abbrev Inv-loop : tie.InvT-loop
 Inv-loop fd frame₀ line₀ verdict₀ count place₀ frame line verdict place =
-    (place ≤ count) × (length frame ≡ length frame₀) × (count ≡ length frame₀ / 64) × (length line ≡ 257) × (verdict ≡ 2 → ⊥)
+    (place ≤ count) × (length frame ≡ length frame₀) × (count ≡ length frame₀ / 64) × (length line ≡ 257) × FrameNumber verdict × (verdict ≡ 0 → (i : ℕ) → i < place → AtMost 31 (vectorAt frame i) × HasZero (vectorAt frame i))
 
 abbrev μ-loop : tie.MeasureT-loop
 μ-loop fd frame₀ line₀ verdict₀ count place₀ frame line verdict place = count - place
 
 loop-holds : tie.Need-loop-holds Inv-loop μ-loop
-loop-holds c = (omega arith, refl, refl, refl, λ q. absurd (omega arith))
+loop-holds c = (omega arith, refl, refl, refl, inl refl, λ z i l. absurd (not-suc-le-zero l))
 
 mul-at : tie.Need-mul-at Inv-loop μ-loop
 mul-at c = search needs
@@ -77,6 +79,9 @@ loop-again c =
       refl,
       search needs,
       fed-number (c .before .before .feed-line .ensures) part (at .inv .4),
+      λ z.
+          let fed = fed-penalties (c .before .before .feed-line .ensures) part (at .inv .4) z in
+          penalties-more (at .place) (at .frame) (c .before .before .feed-line .last .1 .1 .0) (omega arith) (fed .1) (at .inv .5 (fed .0)) (fed .2) (fed .3),
     )
 
 array-borrow-prefix-line : tie.Need-array-borrow-prefix-line Inv-loop μ-loop
@@ -100,7 +105,12 @@ same-length c = search needs
 returns : tie.Need-returns Inv-loop μ-loop
 returns c =
     let at = c .before .before .before .before .before .loop in
-    subst (λ (v : ℕ). OneOf v (0 ∷ 12 ∷ 8 ∷ 9 ∷ [])) (sym (c .end-frame .ensures)) (end-number (at .verdict) _ (at .inv .4))
+    let whole = at .inv .1 in
+    let count = at .inv .2 in
+    let over = c .before .before .before .before .loop-test .left in (
+      subst FrameNumber (sym (c .end-frame .ensures)) (end-number (at .verdict) _ (at .inv .4)),
+      λ z i l. at .inv .5 (end-zero (at .verdict) _ (at .inv .4) (sym (c .end-frame .ensures) ∙ z)) i (omega arith),
+    )
 
 pub feed-file-spec : {M : Type 1} → statement M
 feed-file-spec =

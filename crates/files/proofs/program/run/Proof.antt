@@ -2,7 +2,7 @@
 use mathlib.Core.Path.{refl, _∙_, subst}
 use Rattle.sheet.specs.CodeSheet.{SheetRead}
 use Rattle.sheet.proofs.SheetLaws.{code-read, map-there, coefs-there}
-use Rattle.files.proofs.PrintedLaws.{sheet-printed}
+use Rattle.files.proofs.PrintedLaws.{frame-printed, sheet-printed}
 use borrow.Author.Needs.{needs}
 use Rattle.files.proofs.program.run.Statement.{statement}
 use Rattle.files.proofs.program.run.Tie as tie
@@ -59,7 +59,7 @@ run-code-requires c κs =
     record { code = code-read taken; map-room = map-there taken; coefs-room = coefs-there taken }
 
 returns-2 : tie.Need-returns-2
-returns-2 c = search needs
+returns-2 c = frame-printed (c .run-code .result) (c .run-code .ensures)
 
 pub run-spec : {M : Type 1} → statement M
 run-spec =

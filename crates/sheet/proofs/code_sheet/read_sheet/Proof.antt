@@ -7,7 +7,7 @@ use lib.ListN.{length, take, drop}
 use lib.Seq.{length-take-le}
 use Rattle.polar.proofs.SizeLaws.{places-are, kernels-are}
 use Rattle.sheet.specs.CodeSheet.{numbersOn, sheetLayers, sheetPlaces, sheetKernels, sheetMap, sheetCoefs, sheetRefusal}
-use Rattle.sheet.specs.Parts.{Bytes}
+use Rattle.sheet.specs.Parts.{NumbersGiven}
 use Rattle.sheet.proofs.SheetLaws.{first-number, lines, map-room, coefs-room, map-given, coefs-given, sheet-refused, sheet-taken}
 use borrow.Author.Needs.{needs}
 use Rattle.sheet.proofs.code_sheet.read_sheet.Statement.{statement}
@@ -117,7 +117,7 @@ slice-aggregate-write-numbers-2 c = sym (coefs-part (c .before .before .before .
 write-numbers-requires-2 : tie.Need-write-numbers-requires-2
 write-numbers-requires-2 c κs =
     let sizes = c .before .before .before .before .before in
-    subst (λ (k : ℕ). Bytes (1 + k) (s3 sizes .args .bytes .now) (take (sizes .kernel-count .result) (s3 sizes .args .coefs .now))) (sym (size sizes))
+    subst (λ (k : ℕ). NumbersGiven (1 + k) (s3 sizes .args .bytes .now) (take (sizes .kernel-count .result) (s3 sizes .args .coefs .now))) (sym (size sizes))
     (coefs-given _ _ _ (taken (sizes .before .before .before)) _ (coefs-part sizes ∙ count sizes))
 
 same-length-3 : tie.Need-same-length-3

@@ -5,14 +5,14 @@ use native.Mathlib.Omega.{arith}
 use lib.ListN.{length}
 use Rattle.vector.proofs.Laws.{Filled, fill-none, fill-more, fill-all}
 use Rattle.sheet.specs.CodeSheet.{numberOn, numbersOn}
-use Rattle.sheet.specs.Parts.{Lines, Bytes}
+use Rattle.sheet.specs.Parts.{Lines, NumbersGiven}
 use Rattle.sheet.proofs.SheetLaws.{lent-number}
 use borrow.Author.Needs.{needs}
 use Rattle.sheet.proofs.code_sheet.write_numbers.Statement.{statement}
 use Rattle.sheet.proofs.code_sheet.write_numbers.Tie as tie
 
 abbrev Inv-loop : tie.InvT-loop
-Inv-loop bytes first out₀ i₀ out i = Bytes first bytes out₀ × Filled (length out₀) (λ j. numberOn (first + j) bytes) out i
+Inv-loop bytes first out₀ i₀ out i = NumbersGiven first bytes out₀ × Filled (length out₀) (λ j. numberOn (first + j) bytes) out i
 
 abbrev μ-loop : tie.MeasureT-loop
 μ-loop bytes first out₀ i₀ out i = length out₀ - i
