@@ -1,20 +1,20 @@
 -- The laws of the refusals of `decode`: the two parts of its table, the scan for a vector with no 0, and what it means that a call is taken.
 use mathlib.Core.Path.{_≡_, refl, sym, ap, ap₂, _∙_}
-use mathlib.Core.Logic.{_⊎_, inl, inr}
-use mathlib.Core.Bool.{Bool, true, false, not, _&&_, _||_}
+use mathlib.Core.Logic.{inl, inr}
+use mathlib.Core.Bool.{Bool, true, false, not, _&&_}
 use mathlib.Core.List.{List, [], _∷_}
 use Prim.Native.Nat.{ℕ, zero, suc, _+_, _*_, _/_, _-_, _^_, _≤_, _<_}
-use native.Mathlib.Nat.{le-of-suc-le-suc, not-suc-le-zero, eq-or-lt-of-le, zero-lt-suc, le-refl}
+use native.Mathlib.Nat.{le-of-suc-le-suc, not-suc-le-zero, zero-lt-suc}
 use native.Mathlib.Omega.{arith}
 use borrow.Author.Count.{below-none, below-more}
 use borrow.Author.Tests.{eq-eqb, ne-eqb, eqb-true}
 use lib.Dec.{eqb, lit<}
 use lib.ListN.{length, getD}
-use Rattle.refusal.specs.Tests.{anyTo, Within}
+use Rattle.refusal.specs.Tests.{anyTo}
 use Rattle.refusal.specs.Table.{refusalOf, OneOf, Numbered}
 use Rattle.refusal.proofs.Laws.{taken-none, first-refused, first-taken, both-taken, taken-both, refusal-has}
 use Rattle.refusal.proofs.AnyTo.{any-there, none-there, each-not}
-use Rattle.refusal.proofs.Within.{not-both, or-left, or-right, or-true-right, inside-within, within-inside, none-within, within-none, false-equal, equal-false}
+use Rattle.refusal.proofs.Within.{not-both, inside-within, within-inside, none-within, within-none, false-equal, equal-false}
 use Rattle.vector.specs.Vector.{vectorAt}
 use Rattle.vector.specs.Frame.{IsFrame}
 use Rattle.vector.proofs.SliceLaws.{vector-long, vector-entry}

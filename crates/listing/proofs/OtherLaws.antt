@@ -1,12 +1,11 @@
 -- The least penalty held for any other value is what its name says.
-use mathlib.Core.Path.{_≡_, refl, sym, ap, _∙_, subst}
+use mathlib.Core.Path.{_≡_, ap, _∙_, subst}
 use mathlib.Core.Bool.{Bool, cond}
 use Prim.Native.Nat.{ℕ, suc, _-_, _≤_, _<_}
 use native.Mathlib.Decide.{decLt}
 use native.Mathlib.Omega.{arith}
 use mathlib.Core.List.{List}
 use borrow.Author.Tests.{lt-ltb, le-ltb}
-use lib.Dec.{ltb}
 use Rattle.vector.proofs.Laws.{least-to-le, least-to-at}
 use Rattle.listing.specs.Listing.{heldFor, otherValue, leastOther, IsLeastOther}
 

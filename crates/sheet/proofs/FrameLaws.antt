@@ -5,18 +5,18 @@ use mathlib.Core.Bool.{Bool, true, false, not, cond, _||_}
 use mathlib.Core.List.{List, [], _∷_, _++_, append-nil, append-assoc}
 use Prim.Native.Nat.{ℕ, zero, suc, _+_, _-_, _*_, _/_, _≤_, _<_}
 use native.Mathlib.Decide.{ℕ-discrete}
-use native.Mathlib.Nat.{mul-suc, mul-zero, le-refl, le-of-eq, zero-lt-suc}
+use native.Mathlib.Nat.{mul-suc, mul-zero, le-refl, le-of-eq}
 use native.Mathlib.Omega.{arith}
 use borrow.Author.Tests.{le-ltb, lt-ltb, ne-eqb, eqb-false, not-false}
 use lib.Dec.{eqb, ltb, lit<}
 use lib.ListN.{length, take, drop, length-append, length-take, length-drop, drop-of-length-le}
-use lib.Seq.{take-all, take-at, drop-at, take-append-le, length-take-le, drop-append-add, drop-drop}
+use lib.Seq.{take-all, take-at, drop-append-add, drop-drop}
 use Rattle.refusal.specs.Table.{Row, refusalOf, OneOf, NoneFits, Numbered}
 use Rattle.refusal.specs.Tests.{outside, anyOutside, anyTo, unequal}
 use Rattle.refusal.proofs.Laws.{Finds, finds-refusal, taken-none, none-taken, first-refused, first-taken, when-taken, when-refused, refusal-has}
 use Rattle.refusal.proofs.Within.{true-false, or-left, or-right, none-within, equal-false, unequal-true}
-use Rattle.refusal.proofs.AnyTo.{none-there, each-not, any-ext}
-use Rattle.vector.specs.Vector.{tabulate, joined, vectorAt, AtMost, HasZero}
+use Rattle.refusal.proofs.AnyTo.{each-not, any-ext}
+use Rattle.vector.specs.Vector.{joined, vectorAt, AtMost, HasZero}
 use Rattle.vector.proofs.Laws.{length-tabulate, length-joined, joined-part}
 use Rattle.vector.proofs.SliceLaws.{vector-long}
 use Rattle.columns.specs.Reading.{spelled, part, numbers, isLine}

@@ -8,7 +8,7 @@ ghost use Prim.Native.Nat.{_/_};
 ghost use lib.ListN.{length};
 ghost use Rattle.refusal.specs.Table.{refusalOf};
 ghost use Rattle.refusal.specs.Tests.{anyOutside, anyTo};
-ghost use Rattle.sheet.specs.CodeSheet.{badLine, numbersOn, formTable, contentTable, sheetLayers, sheetRefusal};
+ghost use Rattle.sheet.specs.CodeSheet.{badLine, numbersOn, formTable, contentTable, sheetRefusal};
 ghost use Rattle.sheet.specs.Parts.{Lines, Formed};
 
 // Whether one of the lines of five bytes is not one number in four columns and a line feed. Bytes after the last whole line are not looked at.

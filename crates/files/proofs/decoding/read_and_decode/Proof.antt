@@ -1,7 +1,6 @@
 -- `read_and_decode` meets its contract.
 use mathlib.Core.Path.{_∙_, subst, sym}
 use mathlib.Core.Logic.{inl}
-use Prim.Native.Nat.{ℕ}
 use Rattle.files.specs.Printed.{FrameNumber}
 use borrow.Author.Needs.{needs}
 use Rattle.files.proofs.decoding.read_and_decode.Statement.{statement}

@@ -1,9 +1,9 @@
 -- `kernel_count` meets its contract.
-use mathlib.Core.Path.{_≡_, ap₂, _∙_}
-use Prim.Native.Nat.{ℕ, _*_, _/_, _≤_, min}
+use mathlib.Core.Path.{ap₂}
+use Prim.Native.Nat.{ℕ, _*_, _/_, _≤_}
 use native.Mathlib.Nat.{min-le-right, mul-le-mul-right}
 use native.Mathlib.Omega.{arith}
-use Rattle.polar.specs.Sizes.{placesOf, kernelsOf}
+use Rattle.polar.specs.Sizes.{kernelsOf}
 use borrow.Author.Needs.{needs}
 use Rattle.polar.proofs.sizes.kernel_count.Statement.{statement}
 use Rattle.polar.proofs.sizes.kernel_count.Tie as tie

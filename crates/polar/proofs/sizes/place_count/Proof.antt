@@ -1,6 +1,6 @@
 -- `place_count` meets its contract: a shift of 1 by at most 8 places stays within 64 bits.
 use mathlib.Core.Path.{_≡_, ap, _∙_}
-use Prim.Native.Nat.{ℕ, _*_, _%_, _^_, _≤_, min}
+use Prim.Native.Nat.{ℕ, _*_, _%_, _^_, _≤_}
 use native.Mathlib.Nat.{min-le-right}
 use native.Mathlib.Omega.{arith}
 use lib.Pow.{pow-mono}

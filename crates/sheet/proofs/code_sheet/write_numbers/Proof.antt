@@ -1,11 +1,11 @@
 -- `write_numbers` meets its contract: the bytes before i are the numbers on their lines.
-use mathlib.Core.Path.{_≡_, refl, sym, ap, _∙_}
-use Prim.Native.Nat.{ℕ, _+_, _-_, _<_}
+use mathlib.Core.Path.{_≡_, refl, _∙_}
+use Prim.Native.Nat.{_+_, _-_}
 use native.Mathlib.Omega.{arith}
 use lib.ListN.{length}
 use Rattle.vector.proofs.Laws.{Filled, fill-none, fill-more, fill-all}
 use Rattle.sheet.specs.CodeSheet.{numberOn, numbersOn}
-use Rattle.sheet.specs.Parts.{Lines, NumbersGiven}
+use Rattle.sheet.specs.Parts.{NumbersGiven}
 use Rattle.sheet.proofs.SheetLaws.{lent-number}
 use borrow.Author.Needs.{needs}
 use Rattle.sheet.proofs.code_sheet.write_numbers.Statement.{statement}

@@ -1,5 +1,4 @@
 -- `feed_line` meets its contract.
-use mathlib.Core.Path.{_≡_, sym, ap, _∙_}
 use Rattle.sheet.proofs.FrameLaws.{fed-refused, fed-taken}
 use borrow.Author.Needs.{needs}
 use Rattle.sheet.proofs.frame_file.feed_line.Statement.{statement}

@@ -1,9 +1,7 @@
 -- `first_tried` meets its contract: it goes down the verdicts in their order and stops at the first that is one of the two.
 use mathlib.Core.Path.{_≡_, sym, _∙_}
-use mathlib.Core.Bool.{_||_}
-use mathlib.Core.List.{List, [], _∷_}
+use mathlib.Core.List.{List}
 use Prim.Native.Nat.{ℕ}
-use lib.Dec.{eqb}
 use lib.ListN.{drop}
 use Rattle.refusal.specs.Table.{Row}
 use Rattle.refusal.proofs.Laws.{Finds, none, here, later, finds-refusal}

@@ -1,8 +1,8 @@
 -- `read_frame_line` meets its contract: it goes down its table and stops at the first row that fits.
-use mathlib.Core.Path.{_≡_, sym, ap, _∙_}
+use mathlib.Core.Path.{sym, ap, _∙_}
 use mathlib.Core.Bool.{not}
 use native.Mathlib.Omega.{arith}
-use borrow.Author.Tests.{not-true, not-false}
+use borrow.Author.Tests.{not-false}
 use Rattle.refusal.proofs.Laws.{none, here, later}
 use Rattle.refusal.proofs.Within.{unequal-true, equal-false}
 use Rattle.sheet.specs.FrameLine.{lineLlrs}

@@ -1,7 +1,7 @@
 -- `write_llrs` meets its contract: the numbers before i are those of the line.
-use mathlib.Core.Path.{_≡_, ap, _∙_}
+use mathlib.Core.Path.{_≡_, _∙_}
 use mathlib.Core.Bool.{true}
-use Prim.Native.Nat.{ℕ, _-_, _<_}
+use Prim.Native.Nat.{_-_, _<_}
 use native.Mathlib.Omega.{arith}
 use lib.ListN.{length}
 use Rattle.vector.proofs.Laws.{Filled, fill-none, fill-more, fill-all}

@@ -5,7 +5,7 @@ use Prim.Native.Nat.{ℕ, _+_, _-_, _≤_, _<_}
 use native.Mathlib.Omega.{arith}
 use borrow.Author.Count.{below-none, below-more}
 use Rattle.refusal.specs.Tests.{outside}
-use Rattle.sheet.specs.CodeSheet.{numberOn, numbersOn}
+use Rattle.sheet.specs.CodeSheet.{numberOn}
 use Rattle.sheet.specs.Parts.{Lines}
 use Rattle.sheet.proofs.SheetLaws.{lent-number, number-outside, numbers-inside}
 use borrow.Author.Needs.{needs}

@@ -1,6 +1,6 @@
 -- `content_refusal` meets its contract: it goes down the rows on the buffers and the numbers and stops at the first that fits.
 use mathlib.Core.Path.{_≡_, sym, ap, ap₂, _∙_, subst}
-use mathlib.Core.Bool.{false, not}
+use mathlib.Core.Bool.{not}
 use mathlib.Core.List.{List}
 use Prim.Native.Nat.{ℕ, _+_, _*_, _/_, _^_}
 use borrow.Author.Tests.{lt-ltb, le-ltb}

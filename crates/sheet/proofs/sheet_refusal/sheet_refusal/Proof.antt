@@ -1,5 +1,5 @@
 -- `sheet_refusal` meets its contract: first the rows on the form, then the others.
-use mathlib.Core.Path.{_≡_, sym, _∙_, subst}
+use mathlib.Core.Path.{sym, _∙_, subst}
 use Prim.Native.Nat.{ℕ}
 use native.Mathlib.Omega.{arith}
 use Rattle.sheet.specs.CodeSheet.{sheetLayers}
