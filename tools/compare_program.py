@@ -380,6 +380,7 @@ def compare(seed, pairs, program):
 
 
 def main():
+    """Compare, and print how many pairs agree; 0 if all do, else 1."""
     parser = argparse.ArgumentParser(description=__doc__.split("\n")[0])
     parser.add_argument("--seed", type=int, default=73)
     parser.add_argument("--pairs", type=int, default=600)

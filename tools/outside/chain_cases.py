@@ -12,7 +12,7 @@ of clipped entries, checksums of the symbols and of the report; and 1, for a wor
 buffer that is all zeros.
 
 Run by itself it writes the lines; that takes a minute and a half.  They are kept
-in crates/outside_chain/data/results.txt.
+in crates/outside_chain/stdin.
 """
 
 import sys
@@ -70,6 +70,7 @@ class Channel:
     """
 
     def __init__(self, generator, Qc):
+        """Draw them for a frame at Qc."""
         large = generator.draw() % 4 == 0
         self.amplitude = generator.draw() % 6 + 1
         if large:
@@ -145,6 +146,7 @@ def lines():
 
 
 def main():
+    """Write the lines."""
     for line in lines():
         # Written as bytes, so that the line feed is byte 10 everywhere.
         sys.stdout.buffer.write((line + "\n").encode("ascii"))

@@ -244,6 +244,7 @@ def write_file(path, data):
 
 
 def main():
+    """Write the files of each case, and print the lines for crates.txt."""
     generator = Generator(SEED)
     for name, number, n, draw, sheet_changes, frame_changes, comment in CASES:
         code, frame = case_files(

@@ -1,7 +1,7 @@
 """Make the cases of the readers and of the lines of a listing, and what the
 calls give for them.
 
-Writes crates/outside_reading/data/cases.bin, the inputs, and
+Writes crates/outside_reading/stdin, the inputs, and
 crates/outside_reading/stdout, a line for each of them, made by reading.py and
 decoding.py.  Both are the same bytes in each run.
 
@@ -472,8 +472,9 @@ def expected_line(case):
 
 
 def main():
+    """Write the inputs and the lines."""
     made = cases()
-    write_file(FOLDER / "data" / "cases.bin",
+    write_file(FOLDER / "stdin",
                two_bytes(len(made)) + b"".join(case_bytes(x) for x in made))
     write_file(FOLDER / "stdout", b"".join(expected_line(x) for x in made))
 

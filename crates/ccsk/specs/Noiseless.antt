@@ -37,8 +37,7 @@ pub record Weighed (base amplitude top bottom qc s : ℕ) : Type 0 where
   pub sent : sentLlr base amplitude top bottom qc s s ≡ 0
   pub other : (v : ℕ) → v < 64 → sentLlr base amplitude top bottom qc s v ≡ min (amplitude * differing base s v * top / bottom) (2 ^ qc - 1)
 
--- the premise of the noiseless statement at the symbol s, in the order's words: each wrong symbol's penalty is still at least 1 after
--- rounding
+-- the premise of the noiseless statement at the symbol s: each wrong symbol's penalty is still at least 1 after rounding
 abbrev pub Premise : (base amplitude top bottom qc : ℕ) → ℕ → Type 0
 Premise base amplitude top bottom qc s = (v : ℕ) → v < 64 → (v ≡ s → ⊥) → 1 ≤ sentLlr base amplitude top bottom qc s v
 

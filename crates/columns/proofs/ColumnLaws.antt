@@ -21,6 +21,7 @@ length-before zero v = refl
 length-before (suc w) v =
     length-append (before w (v / 10)) (column v ∷ []) ∙ (let e = length-before w (v / 10) in omega arith)
 
+-- so has a number in columns
 pub length-field : (w v : ℕ) → length (field w v) ≡ w
 unfolding field
 length-field zero v = refl
@@ -82,6 +83,7 @@ before-small (suc w) v =
     let c = column-counts v in
     omega arith
 
+-- so does a number in columns
 pub field-small : (w v : ℕ) → spelled (field w v) < 10 ^ w
 unfolding field spelled spelledFrom
 field-small zero v = omega arith

@@ -19,7 +19,8 @@ use Rattle.sheet.specs.CodeSheet.{SheetRead}
 use Rattle.sheet.specs.CodeSheet.{returned as sheetReturned}
 use Rattle.sheet.specs.declared.code_sheet.Answer.{Answer as SheetAnswer}
 use Rattle.sheet.proofs.SheetLaws.{sheet-numbers, number-read}
-use Rattle.files.specs.Printed.{Printed, FrameNumber, Penalties, Lent}
+use Rattle.files.specs.Printed.{Printed, FrameNumber, Penalties}
+use Rattle.files.specs.Parts.{Lent}
 
 -- a frame's numbers
 pub frame-printed : (r : ℕ) → FrameNumber r → Printed r

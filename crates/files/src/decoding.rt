@@ -6,7 +6,8 @@ use decoder::Answer;
 ghost use mathlib.Core.Path.{_≡_};
 ghost use Rattle.decoder.specs.Decode.{returned};
 ghost use Rattle.polar.specs.Code.{IsCode};
-ghost use Rattle.files.specs.Printed.{FrameNumber, FrameRoom, Given, Taken, Roomy, Lent};
+ghost use Rattle.files.specs.Printed.{FrameNumber};
+ghost use Rattle.files.specs.Parts.{FrameRoom, Given, Taken, Roomy, Lent};
 
 // The number of an answer of the decoder: that of the refusal, 0 for a frame that was decoded.
 fn refused_by(answer: Answer) -> u8

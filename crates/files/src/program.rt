@@ -7,7 +7,8 @@ use sheet::Answer;
 ghost use mathlib.Core.Path.{_≡_};
 ghost use Rattle.io.specs.Counts.{Counts};
 ghost use Rattle.sheet.specs.CodeSheet.{returned};
-ghost use Rattle.files.specs.Printed.{Printed, FrameNumber, CodeRead};
+ghost use Rattle.files.specs.Printed.{Printed, FrameNumber};
+ghost use Rattle.files.specs.Parts.{CodeRead};
 
 // The number of an answer of the sheet reader: that of the refusal, 0 for a sheet that was taken.
 fn refused_by(answer: Answer) -> u8

@@ -125,6 +125,7 @@ lineRows =
 abbrev pub workedSheet : List ℕ
 workedSheet = line 4 (1 ∷ []) ++ (line 4 (1 ∷ []) ++ (line 4 (0 ∷ []) ++ line 4 (2 ∷ [])))
 
+-- the rows on that sheet, on what is read from it, and on each line of its listing
 abbrev pub listingRows : List Row
 listingRows =
     let frame = zeroAt 33 3 ++ zeroAt 1 3 in

@@ -1,4 +1,4 @@
-// How many cases were run, how many of their lines agree with the file, and the outcome in words.
+// How many cases were run, how many of their lines agree with the input, and the outcome in words.
 use crate::line::LENGTH;
 use crate::line::same_bytes;
 use crate::parts::rest;
@@ -18,7 +18,7 @@ fn more(x: usize) -> usize {
     if x < 65536 { x + 1 } else { x }
 }
 
-// Where the line of the next case begins in the file.
+// Where the line of the next case begins in the input.
 fn line_start(cases: usize) -> usize {
     cases % 131072 * LENGTH
 }
@@ -50,7 +50,7 @@ fn print_fault(words: &[u8], x: usize) {
     io::write_all(STDOUT_FILENO, b"\n");
 }
 
-// Prints how many lines agree, and of how many cases. Where one does not, or the file has `count` bytes and so more than the lines of the cases, a line says
+// Prints how many lines agree, and of how many cases. Where one does not, or the input has `count` bytes and so more than the lines of the cases, a line says
 // so.
 pub(crate) fn print_tally(tally: Tally, count: usize) {
     io::print_decimal(STDOUT_FILENO, tally.agreed as u64);

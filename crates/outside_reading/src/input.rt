@@ -1,4 +1,4 @@
-// The file of cases. It begins with how many they are, and each has a head of four numbers and then its bytes. A number is two bytes, the higher one first.
+// The input: the cases. It begins with how many they are, and each has a head of four numbers and then its bytes. A number is two bytes, the higher one first.
 
 // The head of a case: which call it is for, two numbers that the call or its buffers are given by, and how many bytes follow.
 pub(crate) struct Case {

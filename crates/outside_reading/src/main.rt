@@ -1,4 +1,4 @@
-// The readers of sheets and frames and the lines of a listing, on the cases of the file cases.bin, which tools/outside/reading_cases.py makes. A line is printed
+// The readers of sheets and frames and the lines of a listing, on the cases that stand in the file stdin, which tools/outside/reading_cases.py makes. A line is printed
 // for each case: what the call answers and checksums of what it leaves, or the line that it makes. The file stdout has the lines that the outside program
 // gives for the same cases.
 mod buffers;
@@ -11,10 +11,10 @@ mod sheets;
 
 use crate::cases::run_cases;
 use crate::input::read_count;
+use libc::STDIN_FILENO;
 
-// Runs the cases of the file, as many as it says at its start.
+// Runs the cases of the input, as many as it says at its start.
 fn main() {
     let mut bytes = [0u8; 16384];
-    let fd = os::open_read(b"cases.bin");
-    run_cases(fd, read_count(fd), &mut bytes);
+    run_cases(STDIN_FILENO, read_count(STDIN_FILENO), &mut bytes);
 }

@@ -16,6 +16,7 @@ use Rattle.refusal.specs.Tests.{outside, anyOutside, unequal, Within}
 pub true-false : true ≡ false → ⊥
 true-false e = let z : _≡_ {A = ℕ} 0 1 = cc in absurd (omega arith)
 
+-- the same for any test
 pub not-both : {t : Bool} → t ≡ false → t ≡ true → ⊥
 not-both e f = true-false (sym f ∙ e)
 
