@@ -3,27 +3,9 @@ use mathlib.Core.Path.{_≡_, refl, sym, ap, _∙_, subst}
 use mathlib.Core.List.{List, [], _∷_}
 use Prim.Native.Nat.{ℕ, zero, suc, _+_, _-_, _≤_, _<_}
 use native.Mathlib.Omega.{arith}
-use lib.ListN.{length, getD, set}
-use Rattle.vector.proofs.Laws.{length-tabulate, getD-tabulate}
-use Rattle.gf64.specs.Field.{_⊕_, _⊙_}
-use Rattle.gf64.proofs.SumLaws.{sum-lt}
-use Rattle.gf64.proofs.ProductLaws.{product-lt}
-use Rattle.scms.specs.Nodes.{scaled, sumAt}
+use lib.ListN.{length, set}
 use Rattle.scms.specs.Decision.{smallestTo}
 use Rattle.scms.proofs.DecisionLaws.{smallest-takes, smallest-keeps}
-use Rattle.decoder.specs.Parts.{Small}
-
--- a node's sum fits in 16 bits
-pub sum-small : (theta w : List ℕ) (b c : ℕ) → Small theta → Small w → b < 64 → c < 64 → sumAt theta w b c ≤ 16382
-sum-small theta w b c st sw lb lc = omega (arith, st .most (b ⊕ c) (sum-lt b c lb lc), sw .most c lc)
-
--- phi's entries in another order are no larger
-pub scaled-small : (h : ℕ) (phi w : List ℕ) → w ≡ scaled h phi → Small phi → Small w
-unfolding scaled
-scaled-small h phi w e s = subst Small (sym e) (record {
-  long = length-tabulate 64 (λ c. getD phi (h ⊙ c) 0);
-  most = λ b l. rw getD-tabulate (s .most (h ⊙ b) (product-lt h b));
-})
 
 -- the smallest index so far, and one number more
 pub smallest-more : (i b : ℕ) (f : ℕ → ℕ) → 1 ≤ i → b ≡ smallestTo (i - 1) f

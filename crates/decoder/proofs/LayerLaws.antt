@@ -8,7 +8,9 @@ use lib.ListN.{length, getD, length-append}
 use Rattle.vector.specs.Vector.{vectorAt, withVector, stored}
 use Rattle.vector.proofs.SliceLaws.{vector-long, with-long, with-there, with-other, with-append, entries-of, stored-there}
 use Rattle.polar.proofs.Numbers.{getD-any}
-use Rattle.decoder.specs.Parts.{Small, Kept, KernelsGiven}
+use Rattle.nodes.specs.Parts.{Small, lowBits}
+use Rattle.nodes.proofs.LowLaws.{low-same}
+use Rattle.decoder.specs.Parts.{Kept, KernelsGiven}
 
 -- the vectors g 0, g 1, .., g (t − 1) stand after the block's, and what was before them is as it was
 pub record StoredNodes (at half : ℕ) (frame work : List ℕ) (g : ℕ → List ℕ) (after : List ℕ) (t : ℕ) : Type 0 where
@@ -31,18 +33,22 @@ module _ {at half start : ℕ} {cs frame work : List ℕ} (given : KernelsGiven 
 
   module _ {g : ℕ → List ℕ} {after : List ℕ} {t : ℕ} (s : StoredNodes at half frame work g after t) where
     -- so is one that has been loaded
-    pub loaded-small : (i : ℕ) → i < half + half → (v : List ℕ) → v ≡ vectorAt (frame ++ after) (at + i) → Small v
+    loaded-small : (i : ℕ) → i < half + half → (v : List ℕ) → v ≡ vectorAt (frame ++ after) (at + i) → Small v
     loaded-small i l v e = subst Small (sym (e ∙ s .kept (at + i) (omega arith))) (source-small i l)
+
+    -- all of its bits count
+    low-is : (i : ℕ) → i < half + half → (v : List ℕ) → v ≡ vectorAt (frame ++ after) (at + i) → lowBits v ≡ v
+    low-is i l v e = low-same v (loaded-small i l v e)
 
     -- what a node makes of the vectors that were loaded for kernel t is what it makes of the block's
     pub node-is : {A : Type 0} (N : ℕ → List ℕ → List ℕ → A) → t < half → (theta phi : List ℕ)
         → theta ≡ vectorAt (frame ++ after) (at + t) → phi ≡ vectorAt (frame ++ after) (at + (half + t))
-        → N (getD cs (start + t) 0) theta phi ≡ N (getD cs (start + t) 1) (vectorAt (frame ++ work) (at + t)) (vectorAt (frame ++ work) (at + (half + t)))
+        → N (getD cs (start + t) 0) (lowBits theta) (lowBits phi) ≡ N (getD cs (start + t) 1) (vectorAt (frame ++ work) (at + t)) (vectorAt (frame ++ work) (at + (half + t)))
     node-is N l theta phi p q =
         let a : getD cs (start + t) 0 ≡ getD cs (start + t) 1 = getD-any cs (start + t) 0 1 (let r = given .room in omega arith) in
-        let b : theta ≡ vectorAt (frame ++ work) (at + t) = p ∙ s .kept (at + t) (omega arith) in
-        let c : phi ≡ vectorAt (frame ++ work) (at + (half + t)) = q ∙ s .kept (at + (half + t)) (omega arith) in
-        ap (λ (h : ℕ). N h theta phi) a ∙ ap (λ (v : List ℕ). N (getD cs (start + t) 1) v phi) b
+        let b : lowBits theta ≡ vectorAt (frame ++ work) (at + t) = low-is t (omega arith) theta p ∙ p ∙ s .kept (at + t) (omega arith) in
+        let c : lowBits phi ≡ vectorAt (frame ++ work) (at + (half + t)) = low-is (half + t) (omega arith) phi q ∙ q ∙ s .kept (at + (half + t)) (omega arith) in
+        ap (λ (h : ℕ). N h (lowBits theta) (lowBits phi)) a ∙ ap (λ (v : List ℕ). N (getD cs (start + t) 1) v (lowBits phi)) b
         ∙ ap (λ (v : List ℕ). N (getD cs (start + t) 1) (vectorAt (frame ++ work) (at + t)) v) c
 
     module _ (l : t < half) (v : List ℕ) (q : v ≡ g t) (e : length (g t) ≡ 64) where

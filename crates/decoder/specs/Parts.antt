@@ -12,19 +12,6 @@ use Rattle.scms.specs.Nodes.{checkNode, variableNode, clippedEntries}
 use Rattle.scms.specs.Decision.{decision}
 use Rattle.scms.specs.Halves.{Vectors, BlockAnswer, decodeTree, frameTree}
 
--- ---- one node
-
--- what a node is given: a vector of 64 penalties, none above 8,191, the largest cap, so that the sum of two fits in 16 bits
-pub record Small (v : List ℕ) : Type 0 where
-  pub long : length v ≡ 64
-  pub most : AtMost 8191 v
-
--- what a variable node leaves: its penalties and its count of clipped entries, of which there are at most 64
-pub record IsVariableNode (cap h u : ℕ) (theta phi llrs : List ℕ) (count : ℕ) : Type 0 where
-  pub llrs-are : llrs ≡ variableNode cap h u theta phi
-  pub count-is : count ≡ clippedEntries cap h u theta phi
-  pub few : count ≤ 64
-
 -- ---- the vectors of the frame and after them those of the work buffer, numbered from 0 on. A block's vectors are 2^m of them from number `at`
 -- on; those of its halves, one layer on, come after them.
 

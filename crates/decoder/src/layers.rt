@@ -1,14 +1,27 @@
 // The nodes of one layer of a block: those of the kernels that join its two halves. Kernel t has the block's places t and half + t, and
 // coefficient start + t. The vectors of the frame and after them those of the work buffer are numbered from 0 on: the block's own are those
 // from number `at` on, and what the nodes give, the vectors of a half one layer on, is written after them. The frame is only read.
-use crate::nodes::check_node;
-use crate::nodes::variable_node;
 ghost use mathlib.Core.Path.{_≡_};
 ghost use mathlib.Core.List.{_++_};
 ghost use Prim.Native.Nat.{_+_, _*_, _/_, _≤_};
 ghost use lib.ListN.{length};
 ghost use Rattle.vector.specs.Vector.{vectorAt};
 ghost use Rattle.decoder.specs.Parts.{KernelsGiven, CheckNodesWritten, FirstSymbols, VariableNodesWritten};
+
+// Vector i of a slice that has it.
+fn vector_of(s: &[u16], i: usize) -> [u16; 64]
+    requires { ⌜ 64 * (i + 1) ≤ length (now s) ⌝ }
+    ensures { λ r. ⌜ r ≡ vectorAt (now (s .entry)) i ⌝ }
+{
+    let mut v = [0u16; 64];
+    let at = 64 * i;
+    let mut c: usize = 0;
+    while c < 64 {
+        v[c] = s[at + c];
+        c += 1;
+    }
+    v
+}
 
 // Vector i of the frame and the work buffer.
 pub(crate) fn load_vector(frame: &[u16], work: &[u16], i: usize) -> [u16; 64]
@@ -17,10 +30,9 @@ pub(crate) fn load_vector(frame: &[u16], work: &[u16], i: usize) -> [u16; 64]
 {
     let count = frame.len() / 64;
     if i < count {
-        vector::load(frame, i)
-    } else {
-        vector::load(work, i - count)
+        return vector_of(frame, i);
     }
+    vector_of(work, i - count)
 }
 
 // The check nodes of a block's kernels.
@@ -40,7 +52,7 @@ pub(crate) fn check_nodes(
     while t < half {
         let theta = load_vector(frame, work, at + t);
         let phi = load_vector(frame, work, at + (half + t));
-        let r = check_node(theta, phi, coefs[start + t]);
+        let r = nodes::check_node(&theta, &phi, coefs[start + t]);
         vector::store(&r, to + t, work);
         t += 1;
     }
@@ -66,7 +78,7 @@ pub(crate) fn variable_nodes(
     while t < half {
         let theta = load_vector(frame, work, at + t);
         let phi = load_vector(frame, work, at + (half + t));
-        let r = variable_node(theta, phi, coefs[start + t], word[t], cap);
+        let r = nodes::variable_node(&theta, &phi, coefs[start + t], word[t], cap);
         let llrs = r.llrs;
         vector::store(&llrs, to + t, work);
         count += r.count;

@@ -1,10 +1,9 @@
-// The SC-MS decoder (successive cancellation, min-sum) of polar codes over GF(64): its two kinds of nodes, the nodes of a layer, its
-// decision, the decoder by halves, and the call.
+// The SC-MS decoder (successive cancellation, min-sum) of polar codes over GF(64): the nodes of a layer, its decision, the decoder by halves,
+// and the call.
 mod block;
 mod decision;
 mod decoder;
 mod layers;
-mod nodes;
 
 pub use decoder::Answer;
 pub use decoder::decode;

@@ -1,26 +1,29 @@
 -- The laws of the refusals of `decode`: the two parts of its table, the scan for a vector with no 0, and what it means that a call is taken.
 use mathlib.Core.Path.{_≡_, refl, sym, ap, ap₂, _∙_}
 use mathlib.Core.Logic.{inl, inr}
-use mathlib.Core.Bool.{Bool, true, false, not, _&&_}
+use mathlib.Core.Bool.{Bool, true, false, not, _&&_, _||_}
 use mathlib.Core.List.{List, [], _∷_}
-use Prim.Native.Nat.{ℕ, zero, suc, _+_, _*_, _/_, _-_, _^_, _≤_, _<_}
+use Prim.Native.Nat.{ℕ, zero, suc, _+_, _*_, _/_, _-_, _^_, _≤_, _<_, max}
 use native.Mathlib.Nat.{le-of-suc-le-suc, not-suc-le-zero, zero-lt-suc}
+use native.Mathlib.Decide.{decLt}
+use native.Mathlib.Numerals.{add-one}
 use native.Mathlib.Omega.{arith}
 use borrow.Author.Count.{below-none, below-more}
-use borrow.Author.Tests.{eq-eqb, ne-eqb, eqb-true}
-use lib.Dec.{eqb, lit<}
-use lib.ListN.{length, getD}
-use Rattle.refusal.specs.Tests.{anyTo}
+use borrow.Author.Tests.{eq-eqb, ne-eqb, eqb-true, lt-ltb, le-ltb}
+use lib.Dec.{ltb, eqb, lit<}
+use lib.ListN.{length, getD, drop, drop-of-length-le}
+use lib.Seq.{drop-cons}
+use Rattle.refusal.specs.Tests.{outside, anyOutside, anyTo}
 use Rattle.refusal.specs.Table.{refusalOf, OneOf, Numbered}
 use Rattle.refusal.proofs.Laws.{taken-none, first-refused, first-taken, both-taken, taken-both, refusal-has}
 use Rattle.refusal.proofs.AnyTo.{any-there, none-there, each-not}
-use Rattle.refusal.proofs.Within.{not-both, inside-within, within-inside, none-within, within-none, false-equal, equal-false}
+use Rattle.refusal.proofs.Within.{not-both, above-outside, inside-within, within-inside, none-within, within-none, false-equal, equal-false}
 use Rattle.vector.specs.Vector.{vectorAt}
 use Rattle.vector.specs.Frame.{IsFrame}
 use Rattle.vector.proofs.SliceLaws.{vector-long, vector-entry}
 use Rattle.polar.specs.Code.{IsCode}
 use Rattle.polar.proofs.CodeLaws.{rows-code, code-sizes, code-bytes}
-use Rattle.decoder_refusal.specs.Refusals.{noZero, llrsRow, zerosRow, sizeTable, contentTable, decodeTable, decodeRefusal, Decodable}
+use Rattle.decoder_refusal.specs.Refusals.{noZero, greatest, llrsRow, zerosRow, sizeTable, contentTable, decodeTable, decodeRefusal, Decodable}
 
 -- ---- lists with no 0
 
@@ -53,6 +56,53 @@ some-zero (x ∷ xs) e = go (eqb x 0) refl e (some-zero xs)
         → (b : ℕ) × (b < suc (length xs)) × (getD (x ∷ xs) b 0 ≡ 0)
     go true q f ih = (0, zero-lt-suc (length xs), eqb-true x 0 q)
     go false q f ih = let p = ih f in let l = p .1 in (suc (p .0), omega arith, p .2)
+
+-- ---- the greatest number of a list
+
+-- a number that is not above `most` decides nothing
+max-above : (most x g : ℕ) → x ≤ most → ltb most (max x g) ≡ ltb most g
+max-above most x g h = go (decLt most g)
+  where
+    go : Dec (most < g) → ltb most (max x g) ≡ ltb most g
+    go (yes l) = lt-ltb most (max x g) (omega arith) ∙ sym (lt-ltb most g l)
+    go (no l) = le-ltb most (max x g) (omega arith) ∙ sym (le-ltb most g (omega arith))
+
+-- the greatest is above a number exactly where one of the list is
+pub greatest-above : (most : ℕ) (xs : List ℕ) → ltb most (greatest xs) ≡ anyOutside 0 most xs
+unfolding greatest anyOutside
+greatest-above most [] = le-ltb most 0 (omega arith)
+greatest-above most (x ∷ xs) = go (decLt most x) (greatest-above most xs)
+  where
+    go : Dec (most < x) → ltb most (greatest xs) ≡ anyOutside 0 most xs → ltb most (max x (greatest xs)) ≡ outside 0 most x || anyOutside 0 most xs
+    go (yes l) e =
+        lt-ltb most (max x (greatest xs)) (omega arith) ∙ sym (ap (λ (t : Bool). t || anyOutside 0 most xs) (above-outside 0 most x l))
+    go (no l) e =
+        max-above most x (greatest xs) (omega arith) ∙ e
+        ∙ sym (ap (λ (t : Bool). t || anyOutside 0 most xs) (within-inside 0 most x (record { least = omega arith; most = omega arith })))
+
+-- a loop that keeps the greatest number before place i: with those from i on it gives the greatest of all
+abbrev pub Kept : List ℕ → ℕ → ℕ → Type 0
+Kept xs m i = max m (greatest (drop i xs)) ≡ greatest xs
+
+-- one number more
+module _ (xs : List ℕ) (m i : ℕ) (h : Kept xs m i) (l : i < length xs) where
+  -- the numbers from place i on: the one there, and those after it
+  greatest-from : greatest (drop i xs) ≡ max (getD xs i 0) (greatest (drop (i + 1) xs))
+  unfolding greatest
+  greatest-from = rw (add-one, drop-cons xs i 0)
+
+  -- it is greater than the one kept
+  pub keep-new : m < getD xs i 0 → Kept xs (getD xs i 0) (i + 1)
+  keep-new s = let e = greatest-from in omega arith
+
+  -- it is not
+  pub keep-old : getD xs i 0 ≤ m → Kept xs m (i + 1)
+  keep-old s = let e = greatest-from in omega arith
+
+-- no number is left: the one kept is the greatest
+pub keep-all : (xs : List ℕ) (m i : ℕ) → Kept xs m i → length xs ≤ i → m ≡ greatest xs
+unfolding greatest
+keep-all xs m i h l = let e : greatest (drop i xs) ≡ 0 = ap greatest (drop-of-length-le xs l) in omega arith
 
 -- ---- the vectors of a frame
 module _ (frame : List ℕ) where

@@ -1,5 +1,5 @@
 -- By which number of document 01's table 'Refused' a call of `decode` is refused.
-use Prim.Native.Nat.{ℕ, _*_, _/_, _-_, _^_}
+use Prim.Native.Nat.{ℕ, _*_, _/_, _-_, _^_, max}
 use mathlib.Core.Path.{_≡_}
 use mathlib.Core.Bool.{Bool, true, not, _&&_}
 use mathlib.Core.List.{List, [], _∷_, _++_}
@@ -16,6 +16,11 @@ use Rattle.polar.specs.Code.{layersRow, mapRow, emptyRow, coefsRow, IsCode}
 unfoldable pub noZero : List ℕ → Bool
 noZero [] = true
 noZero (x ∷ xs) = not (eqb x 0) && noZero xs
+
+-- the greatest number of the list, 0 where it has none
+unfoldable pub greatest : List ℕ → ℕ
+greatest [] = 0
+greatest (x ∷ xs) = max x (greatest xs)
 
 -- 3: Qm below Qc or above 13
 abbrev pub qmRow : (qc qm : ℕ) → Row

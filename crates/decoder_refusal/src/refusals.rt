@@ -5,20 +5,29 @@ ghost use lib.ListN.{length};
 ghost use Rattle.refusal.specs.Table.{refusalOf};
 ghost use Rattle.refusal.specs.Tests.{anyOutside, anyTo};
 ghost use Rattle.vector.specs.Vector.{vectorAt};
-ghost use Rattle.decoder_refusal.specs.Refusals.{noZero, penaltyTable, sizeTable, contentTable, decodeRefusal};
+ghost use Rattle.decoder_refusal.specs.Refusals.{noZero, greatest, penaltyTable, sizeTable, contentTable, decodeRefusal};
+
+// The greatest number of the frame, 0 where it has none.
+fn greatest(frame: &[u16]) -> u16
+    ensures { λ r. ⌜ r ≡ greatest (now (frame .entry)) ⌝ }
+{
+    let mut m: u16 = 0;
+    let mut i: usize = 0;
+    while i < frame.len() {
+        let x = frame[i];
+        if m < x {
+            m = x;
+        }
+        i += 1;
+    }
+    m
+}
 
 // Whether some number of the frame is above `most`.
 fn any_above(frame: &[u16], most: u16) -> bool
     ensures { λ r. ⌜ r ≡ anyOutside 0 most (now (frame .entry)) ⌝ }
 {
-    let mut i: usize = 0;
-    while i < frame.len() {
-        if most < frame[i] {
-            return true;
-        }
-        i += 1;
-    }
-    false
+    most < greatest(frame)
 }
 
 // Whether the 64 penalties of one of the frame's vectors hold no zero.

@@ -96,6 +96,11 @@ unfolding _⊙_ productBits timesA lowSix
 one-product x h =
     ap (productBits 6 1) (low-symbol x h) ∙ ap₂ _⊕_ (ap timesA (bits-zero 5 x)) (one-mul x) ∙ zero-sum x
 
+-- and from the other side, for any number: its six low bits
+pub product-one : (x : ℕ) → x ⊙ 1 ≡ lowSix x
+unfolding lowSix
+product-one x = product-comm x 1 ∙ product-low 1 x ∙ one-product (lowSix x) (low-lt x)
+
 -- ---- distributive
 
 -- a partial product of a sum
@@ -151,6 +156,10 @@ a-product x y h =
     ∙ ap (productBits 6 (lowSix y)) (low-symbol (timesA x) (a-lt x h) ∙ ap timesA (sym (low-symbol x h)))
     ∙ bits-a 6 (lowSix y) (lowSix x) (low-lt x)
     ∙ ap timesA (sym (product-bits y x) ∙ product-comm y x)
+
+-- a times a product: the second factor times a
+pub product-a : (x y : ℕ) → y < 64 → timesA (x ⊙ y) ≡ x ⊙ timesA y
+product-a x y h = ap timesA (product-comm x y) ∙ sym (a-product y x h) ∙ product-comm (timesA y) x
 
 -- a partial product times z
 bits-product : (k x y z : ℕ) → y < 64 → z < 64 → productBits k x y ⊙ z ≡ productBits k x (y ⊙ z)

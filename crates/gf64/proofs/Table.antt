@@ -8,22 +8,22 @@ use lib.Dec.{T, ltb, eqb, ltb→lt, eqb→eq}
 use Rattle.gf64.specs.Field.{_⊕_, _⊙_, timesA, productBits, lowSix, power, inverse}
 
 -- both tests pass, so the first does
-and-left : (a b : Bool) → T (a && b) → T a
+pub and-left : (a b : Bool) → T (a && b) → T a
 and-left true b t = tt
 and-left false b t = t
 
 -- and the second
-and-right : (a b : Bool) → T (a && b) → T b
+pub and-right : (a b : Bool) → T (a && b) → T b
 and-right true b t = t
 and-right false b t = absurd t
 
 -- the test passes at each number below n
-all : (ℕ → Bool) → ℕ → Bool
+unfoldable pub all : (ℕ → Bool) → ℕ → Bool
 all f zero = true
 all f (suc n) = f n && all f n
 
 -- so it passes at each
-all-at : (f : ℕ → Bool) (n : ℕ) → T (all f n) → (k : ℕ) → k < n → T (f k)
+pub all-at : (f : ℕ → Bool) (n : ℕ) → T (all f n) → (k : ℕ) → k < n → T (f k)
 unfolding all
 all-at f zero t k h = absurd (not-suc-le-zero h)
 all-at f (suc n) t k h = go (all-at f n (and-right (f n) (all f n) t)) (eq-or-lt-of-le (le-of-suc-le-suc h))

@@ -3,6 +3,11 @@ ghost use mathlib.Core.Path.{_≡_};
 ghost use Prim.Native.Nat.{_*_, _<_};
 ghost use Rattle.gf64.specs.Field.{_⊕_, timesA, IsProduct};
 
+mod products;
+
+pub use products::multiples;
+pub use products::multiples_by_columns;
+
 // One step of a product: a times what is there, plus y where the bit is set.
 fn step(sum: u8, bit: u8, y: u8) -> u8
     requires { ⌜ (sum < 64) × (bit < 2) × (y < 64) ⌝ }

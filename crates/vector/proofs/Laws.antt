@@ -221,11 +221,11 @@ least-to-at (suc k) f = go (least-to-at k f) (decLt (leastTo k f) (f (suc k)))
     go p (yes l) = let h = p .1 in (p .0, omega arith, p .2 ∙ sym (min-eq-left (le-of-lt l)))
     go p (no l) = (suc k, le-refl (suc k), sym (min-eq-right (omega arith)))
 
--- the least so far, and one number more
-pub least-more : (b m : ℕ) (f : ℕ → ℕ) → 1 ≤ b → m ≡ leastTo (b - 1) f → (f b < m → f b ≡ leastTo (b + 1 - 1) f) × (m ≤ f b → m ≡ leastTo (b + 1 - 1) f)
+-- the least so far, and one number more; from the first number on, which is then met twice
+pub least-next : (b m : ℕ) (f : ℕ → ℕ) → m ≡ leastTo (b - 1) f → (f b < m → f b ≡ leastTo (b + 1 - 1) f) × (m ≤ f b → m ≡ leastTo (b + 1 - 1) f)
 unfolding leastTo
-least-more zero m f l e = absurd (omega arith)
-least-more (suc k) m f l e =
+least-next zero m f e = ((λ s. absurd (omega arith)), (λ s. e))
+least-next (suc k) m f e =
     let a : suc k - 1 ≡ k = omega arith in
     let n : suc k + 1 - 1 ≡ suc k = omega arith in
     let e2 : m ≡ leastTo k f = e ∙ ap (λ (x : ℕ). leastTo x f) a in
@@ -233,6 +233,10 @@ least-more (suc k) m f l e =
       (λ s. sym (min-eq-right (le-trans (le-of-lt s) (le-of-eq e2))) ∙ back),
       (λ s. e2 ∙ sym (min-eq-left (le-trans (le-of-eq (sym e2)) s)) ∙ back),
     )
+
+-- the same from the second number on
+pub least-more : (b m : ℕ) (f : ℕ → ℕ) → 1 ≤ b → m ≡ leastTo (b - 1) f → (f b < m → f b ≡ leastTo (b + 1 - 1) f) × (m ≤ f b → m ≡ leastTo (b + 1 - 1) f)
+least-more b m f l e = least-next b m f e
 
 -- no entry of a vector is below its least
 pub least-le : (v : List ℕ) (b : ℕ) → b < 64 → least v ≤ getD v b 0

@@ -9,7 +9,7 @@ pub fn least_of(v: &[u16; 64]) -> u16
     ensures { λ r. ⌜ r ≡ least (now (v .entry)) ⌝ }
 {
     let mut m = v[0];
-    let mut b: usize = 1;
+    let mut b: usize = 0;
     while b < 64 {
         let x = v[b];
         if x < m {

@@ -7,7 +7,7 @@ use borrow.Author.Needs.{needs}
 use Rattle.scms.specs.Nodes.{checkNode}
 use Rattle.scms.proofs.NodeLaws.{check-long}
 use Rattle.decoder.specs.Parts.{checkAt}
-use Rattle.decoder.proofs.LayerLaws.{StoredNodes, layer-none, layer-more, loaded-small, node-is}
+use Rattle.decoder.proofs.LayerLaws.{StoredNodes, layer-none, layer-more, node-is}
 use Rattle.decoder.proofs.layers.check_nodes.Statement.{statement}
 use Rattle.decoder.proofs.layers.check_nodes.Tie as tie
 
@@ -22,7 +22,7 @@ abbrev entry : tie.At-loop Inv-loop μ-loop → tie.Start Inv-loop μ-loop
 entry c = c .before .before .before .before
 
 abbrev head : tie.After-shared-slice-known3 Inv-loop μ-loop → tie.At-loop Inv-loop μ-loop
-head c = c .before .before .before .before .before .before
+head c = c .before .before .before .before .before .before .before .before
 
 add-to : tie.Need-add-to Inv-loop μ-loop
 add-to c = search needs
@@ -58,13 +58,7 @@ shared-slice-read-check-node : tie.Need-shared-slice-read-check-node Inv-loop μ
 shared-slice-read-check-node c = search needs
 
 check-node-requires : tie.Need-check-node-requires Inv-loop μ-loop
-check-node-requires c κs =
-    let h = head c .loop in
-    let half = entry (head c) .args .half in
-    let given = entry (head c) .pre in (
-      loaded-small given (h .inv) (h .t) (omega arith) _ (c .before .before .before .load-vector .ensures),
-      loaded-small given (h .inv) (half + h .t) (omega arith) _ (c .before .load-vector2 .ensures),
-    )
+check-node-requires c κs = search needs
 
 add-store : tie.Need-add-store Inv-loop μ-loop
 add-store c = search needs
@@ -84,8 +78,8 @@ loop-again c =
     let loads = made .before in
     let h = head loads .loop in
     let s = entry (head loads) in
-    let theta = loads .before .before .before .load-vector .ensures in
-    let phi = loads .before .load-vector2 .ensures in
+    let theta = loads .before .before .before .before .before .load-vector .ensures in
+    let phi = loads .before .before .before .load-vector2 .ensures in
     let node = made .check-node .ensures ∙ node-is (s .pre) (h .inv) checkNode (omega arith) _ _ theta phi in
     layer-more (s .pre) (h .inv) (omega arith) (made .check-node .result) node (check-long _ _ _) _ (c .before .before .store .ensures)
 

@@ -6,23 +6,22 @@ use native.Mathlib.Omega.{arith}
 use borrow.Author.Needs.{needs}
 use lib.ListN.{length}
 use Rattle.vector.specs.Vector.{vectorAt}
-use Rattle.vector.proofs.SliceLaws.{vector-first, vector-second, loaded-there}
+use Rattle.vector.proofs.SliceLaws.{vector-first, vector-second}
 use Rattle.decoder.proofs.layers.load_vector.Statement.{statement}
 use Rattle.decoder.proofs.layers.load_vector.Tie as tie
 
-load-requires : tie.Need-load-requires
-load-requires c κs = search needs
+vector-of-requires : tie.Need-vector-of-requires
+vector-of-requires c κs = omega arith
 
-load-requires-2 : tie.Need-load-requires-2
-load-requires-2 c κs = search needs
+vector-of-requires-2 : tie.Need-vector-of-requires-2
+vector-of-requires-2 c κs = omega arith
 
 returns : tie.Need-returns
 returns c =
     let s = c .before .before .before .before in
     let a = s .args in
     let n = length (a .frame .now) / 64 in
-    c .load .ensures ∙ loaded-there (a .frame .now) (a .i) (omega arith)
-    ∙ sym (vector-first n (a .frame .now) (a .work .now) (a .i) (s .pre .0) (c .before .if1 .taken))
+    c .vector-of .ensures ∙ sym (vector-first n (a .frame .now) (a .work .now) (a .i) (s .pre .0) (c .before .if1 .taken))
 
 returns-2 : tie.Need-returns-2
 returns-2 c =
@@ -30,8 +29,8 @@ returns-2 c =
     let a = s .args in
     let n = length (a .frame .now) / 64 in
     let e : n + (a .i - n) ≡ a .i = omega arith in
-    c .load2 .ensures ∙ loaded-there (a .work .now) (a .i - n) (omega arith)
+    c .vector-of2 .ensures
     ∙ sym (vector-second n (a .frame .now) (a .work .now) (a .i - n) (s .pre .0)) ∙ ap (vectorAt (a .frame .now ++ a .work .now)) e
 
 pub load-vector-spec : {M : Type 1} → statement M
-load-vector-spec = tie.close (tie.spec load-requires load-requires-2 returns returns-2)
+load-vector-spec = tie.close (tie.spec vector-of-requires returns vector-of-requires-2 returns-2)

@@ -7,10 +7,12 @@ use borrow.Author.Needs.{needs}
 use lib.ListN.{getD}
 use Rattle.vector.specs.Vector.{sumTo}
 use Rattle.vector.proofs.Laws.{sum-more}
+use Rattle.gf64.proofs.ProductLaws.{low-symbol}
 use Rattle.scms.specs.Nodes.{variableNode, clippedEntries}
 use Rattle.scms.proofs.NodeLaws.{variable-long}
+use Rattle.nodes.specs.Parts.{lowBits}
 use Rattle.decoder.specs.Parts.{variableAt, clippedTo}
-use Rattle.decoder.proofs.LayerLaws.{StoredNodes, layer-none, layer-more, loaded-small, node-is}
+use Rattle.decoder.proofs.LayerLaws.{StoredNodes, layer-none, layer-more, node-is}
 use Rattle.decoder.proofs.layers.variable_nodes.Statement.{statement}
 use Rattle.decoder.proofs.layers.variable_nodes.Tie as tie
 
@@ -27,7 +29,7 @@ abbrev entry : tie.At-loop Inv-loop μ-loop → tie.Start Inv-loop μ-loop
 entry c = c .before .before .before .before .before
 
 abbrev turn : tie.After-shared-slice-known5 Inv-loop μ-loop → tie.In-loop Inv-loop μ-loop
-turn c = c .before .before .before .before .before .before
+turn c = c .before .before .before .before .before .before .before .before
 
 abbrev head : tie.After-shared-slice-known5 Inv-loop μ-loop → tie.At-loop Inv-loop μ-loop
 head c = turn c .before
@@ -70,14 +72,7 @@ shared-slice-read-variable-node-2 : tie.Need-shared-slice-read-variable-node-2 I
 shared-slice-read-variable-node-2 c = search needs
 
 variable-node-requires : tie.Need-variable-node-requires Inv-loop μ-loop
-variable-node-requires c κs =
-    let h = head c .loop in
-    let half = entry (head c) .args .half in
-    let given = entry (head c) .pre .0 in (
-      entry (head c) .pre .1 .symbols (h .t) (omega arith),
-      loaded-small given (h .inv .0) (h .t) (omega arith) _ (c .before .before .before .before .load-vector .ensures),
-      loaded-small given (h .inv .0) (half + h .t) (omega arith) _ (c .before .before .load-vector2 .ensures),
-    )
+variable-node-requires c κs = search needs
 
 add-store : tie.Need-add-store Inv-loop μ-loop
 add-store c = search needs
@@ -102,14 +97,22 @@ loop-again c =
     let s = entry (head loads) in
     let a = s .args in
     let u = getD (a .word .now) (h .t) 0 in
-    let theta = loads .before .before .before .before .load-vector .ensures in
-    let phi = loads .before .before .load-vector2 .ensures in
+    let theta = loads .before .before .before .before .before .before .load-vector .ensures in
+    let phi = loads .before .before .before .before .load-vector2 .ensures in
     let node = made .variable-node .ensures in
     let l = turn loads .loop-test .taken in
     let so-far = h .inv .2 in
     let more = node .few in
-    let llrs = node .llrs-are ∙ node-is (s .pre .0) (h .inv .0) (λ k. variableNode (a .cap) k u) l _ _ theta phi in
-    let count = node .count-is ∙ node-is (s .pre .0) (h .inv .0) (λ k. clippedEntries (a .cap) k u) l _ _ theta phi in (
+    let symbol = low-symbol u (s .pre .1 .symbols (h .t) l) in
+    let k = getD (a .coefs .now) (a .start + h .t) 0 in
+    let first = lowBits (loads .before .before .before .before .before .before .load-vector .result) in
+    let second = lowBits (loads .before .before .before .before .load-vector2 .result) in
+    let llrs =
+    node .llrs-are ∙ ap (λ (z : ℕ). variableNode (a .cap) k z first second) symbol
+    ∙ node-is (s .pre .0) (h .inv .0) (λ j. variableNode (a .cap) j u) l _ _ theta phi in
+    let count =
+    node .count-is ∙ ap (λ (z : ℕ). clippedEntries (a .cap) k z first second) symbol
+    ∙ node-is (s .pre .0) (h .inv .0) (λ j. clippedEntries (a .cap) j u) l _ _ theta phi in (
       layer-more (s .pre .0) (h .inv .0) l (made .variable-node .result .llrs) llrs (variable-long (a .cap) _ u _ _) _ (c .before .before .before .store .ensures),
       ap₂ (λ (x y : ℕ). x + y) (h .inv .1) count ∙ sym (sum-more (h .t) _),
       omega arith,

@@ -1,0 +1,97 @@
+-- `zithejo_decode` meets its contract: the number and the count are those of the decoder's answer.
+use mathlib.Core.Path.{_≡_, sym, ap}
+use Prim.Native.Nat.{ℕ}
+use Rattle.decoder.specs.declared.decoder.Answer.{Answer}
+use Rattle.decoder.specs.declared.decoder.Answer.the-variants.{Count, Refused}
+use Rattle.decoder.specs.Decode.{returned}
+use Rattle.c_calls.specs.Calls.{firstOr}
+use borrow.Author.Needs.{needs}
+use Rattle.c_calls.proofs.zithejo_decode.Statement.{statement}
+use Rattle.c_calls.proofs.zithejo_decode.Tie as tie
+
+-- the number of each case of the answer
+number-counted : {a : Answer} {clipped : ℕ} → a ≡ Count clipped → 0 ≡ returned a .number
+unfolding returned
+number-counted is = sym (ap (λ (a : Answer). returned a .number) is)
+
+number-refused : {a : Answer} {number : ℕ} → a ≡ Refused number → number ≡ returned a .number
+unfolding returned
+number-refused is = sym (ap (λ (a : Answer). returned a .number) is)
+
+-- the count at exit for each case
+count-counted : {a : Answer} {clipped : ℕ} (count : ℕ) → a ≡ Count clipped → clipped ≡ firstOr (returned a .values) count
+unfolding returned firstOr
+count-counted count is = sym (ap (λ (a : Answer). firstOr (returned a .values) count) is)
+
+count-refused : {a : Answer} {number : ℕ} (count : ℕ) → a ≡ Refused number → count ≡ firstOr (returned a .values) count
+unfolding returned firstOr
+count-refused count is = sym (ap (λ (a : Answer). firstOr (returned a .values) count) is)
+
+-- the place after the call of the decoder, from that where the answer is matched
+abbrev called : tie.After-slice-known6 → tie.After-decode
+called c = c .before .before .before .before .before .before
+
+decode-requires : tie.Need-decode-requires
+decode-requires c κs = search needs
+
+enum-known-answer : tie.Need-enum-known-answer
+enum-known-answer c = search needs
+
+enum-known-answer-2 : tie.Need-enum-known-answer-2
+enum-known-answer-2 c = search needs
+
+same-length : tie.Need-same-length
+same-length c = search needs
+
+same-length-2 : tie.Need-same-length-2
+same-length-2 c = search needs
+
+same-length-3 : tie.Need-same-length-3
+same-length-3 c = search needs
+
+returns : tie.Need-returns
+returns c =
+    let done = called (c .before .before .before) in
+    let is = c .before .answer .given .1 in
+    record {
+      answer = done .decode .result;
+      decoded = done .decode .ensures;
+      number-returned = number-counted is;
+      count-is = count-counted _ is;
+    }
+
+same-length-4 : tie.Need-same-length-4
+same-length-4 c = search needs
+
+same-length-5 : tie.Need-same-length-5
+same-length-5 c = search needs
+
+same-length-6 : tie.Need-same-length-6
+same-length-6 c = search needs
+
+returns-2 : tie.Need-returns-2
+returns-2 c =
+    let done = called (c .before .before .before) in
+    let is = c .before .answer2 .given .1 in
+    record {
+      answer = done .decode .result;
+      decoded = done .decode .ensures;
+      number-returned = number-refused is;
+      count-is = count-refused _ is;
+    }
+
+pub zithejo-decode-spec : {M : Type 1} → statement M
+zithejo-decode-spec =
+    tie.close
+    (tie.spec
+    decode-requires
+    enum-known-answer
+    enum-known-answer-2
+    same-length
+    same-length-2
+    same-length-3
+    returns
+    same-length-4
+    same-length-5
+    same-length-6
+    returns-2)

@@ -1,0 +1,65 @@
+// The calls for programs in C and Rust, under names with the prefix zithejo_. Each takes anything: what it can't work on gets the number of a refusal.
+// A slice is two arguments in C, a pointer to its first element and the number of elements.
+use decoder::Answer;
+ghost use Rattle.polar.specs.Encode.{Encoded};
+ghost use Rattle.ccsk.specs.Demap.{Demapped};
+ghost use Rattle.c_calls.specs.Calls.{DecodeCalled};
+
+// Encodes a message, as `polar::encode`. Returns 0, with the codeword in the buffer lent for it; or the lowest refusal of 1, 2, 4, 5, 6 and 7 that
+// fits, and leaves the buffer as it came.
+#[no_mangle]
+pub extern "C" fn zithejo_encode(
+    n: usize,
+    map: &[u8],
+    coefs: &[u8],
+    message: &[u8],
+    codeword: &mut [u8],
+) -> u8
+    ensures { λ r. ⌜ Encoded n (now (map .entry)) (now (coefs .entry)) (now (message .entry)) (now (codeword .entry)) (now (codeword .exit)) r ⌝ }
+{
+    polar::encode(n, map, coefs, message, codeword)
+}
+
+// Weighs samples into penalties, as `ccsk::demap`. Returns 0, with the penalties in the buffer lent for them; or the lowest refusal of 2, 3, 10 and 11
+// that fits, and leaves the buffer as it came.
+#[no_mangle]
+pub extern "C" fn zithejo_demap(
+    base: u64,
+    samples: &[i8],
+    top: u32,
+    bottom: u32,
+    qc: u32,
+    llrs: &mut [u16],
+) -> u8
+    ensures { λ r. ⌜ Demapped base top bottom qc (now (samples .entry)) (now (llrs .entry)) (now (llrs .exit)) r ⌝ }
+{
+    ccsk::demap(base, samples, top, bottom, qc, llrs)
+}
+
+// Decodes a frame, as `decoder::decode`. Returns 0, with the symbols, the report and the count of clipped entries in the places lent for them, and the
+// work buffer all zeros; or the lowest refusal of 1, 2, 3, 4, 5, 6, 8 and 9 that fits, and leaves every buffer and the count as they came.
+#[no_mangle]
+pub extern "C" fn zithejo_decode(
+    n: usize,
+    map: &[u8],
+    coefs: &[u8],
+    qc: u32,
+    qm: u32,
+    frame: &[u16],
+    work: &mut [u16],
+    symbols: &mut [u8],
+    report: &mut [u16],
+    count: &mut u32,
+) -> u8
+    ensures { λ r. ⌜ DecodeCalled n (now (map .entry)) (now (coefs .entry)) qc qm (now (frame .entry)) (now (work .entry)) (now (symbols .entry))
+        (now (report .entry)) (now (count .entry)) (now (work .exit)) (now (symbols .exit)) (now (report .exit)) (now (count .exit)) r ⌝ }
+{
+    let answer = decoder::decode(n, map, coefs, qc, qm, frame, work, symbols, report);
+    match answer {
+        Answer::Count(clipped) => {
+            *count = clipped;
+            0
+        }
+        Answer::Refused(number) => number,
+    }
+}

@@ -1,0 +1,22 @@
+-- `part` meets its contract, in each of its two cases.
+use mathlib.Core.Path.{sym, ap}
+use mathlib.Core.Bool.{Bool, cond}
+use borrow.Author.Needs.{needs}
+use borrow.Author.Tests.{eq-eqb, ne-eqb}
+use Rattle.gf64.specs.Multiples.{part}
+use Rattle.gf64.proofs.products.part.Statement.{statement}
+use Rattle.gf64.proofs.products.part.Tie as tie
+
+div-if1 : tie.Need-div-if1
+div-if1 c = search needs
+
+returns : tie.Need-returns
+unfolding part
+returns c = sym (ap (λ (t : Bool). cond t (c .before .args .q) 0) (eq-eqb _ _ (c .if1 .taken)))
+
+returns-2 : tie.Need-returns-2
+unfolding part
+returns-2 c = sym (ap (λ (t : Bool). cond t (c .before .args .q) 0) (ne-eqb _ _ (c .if1 .left)))
+
+pub part-spec : {M : Type 1} → statement M
+part-spec = tie.close (tie.spec div-if1 returns returns-2)

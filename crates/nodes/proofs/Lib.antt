@@ -1,0 +1,6 @@
+pub mod LowLaws
+pub mod CopyLaws
+pub mod StepLaws
+pub mod SignedLaws
+pub mod LeastLaws
+pub mod TurnLaws

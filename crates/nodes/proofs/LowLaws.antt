@@ -1,0 +1,32 @@
+-- The laws of penalties and the bits of them that count.
+use mathlib.Core.Path.{_≡_, sym, subst}
+use mathlib.Core.List.{List}
+use Prim.Native.Nat.{ℕ, _%_}
+use native.Mathlib.Omega.{arith}
+use lib.ListN.{getD}
+use Rattle.vector.proofs.Laws.{length-tabulate, getD-tabulate, tabulate-by}
+use Rattle.gf64.specs.Field.{_⊙_}
+use Rattle.gf64.proofs.ProductLaws.{product-lt}
+use Rattle.scms.specs.Nodes.{scaled}
+use Rattle.nodes.specs.Parts.{lowBits, Small}
+
+-- what counts is small
+pub low-small : {w : List ℕ} (v : List ℕ) → w ≡ lowBits v → Small w
+unfolding lowBits
+low-small v e = subst Small (sym e) (record {
+  long = length-tabulate 64 (λ b. getD v b 0 % 8192);
+  most = λ b l. rw getD-tabulate (omega arith);
+})
+
+-- of penalties that are small all of it counts
+pub low-same : (v : List ℕ) → Small v → lowBits v ≡ v
+unfolding lowBits
+low-same v s = sym (tabulate-by 0 64 (λ b. getD v b 0 % 8192) v (s .long) (λ b l. let m = s .most b l in omega arith))
+
+-- phi's entries in another order are no larger
+pub scaled-small : (h : ℕ) (phi w : List ℕ) → w ≡ scaled h phi → Small phi → Small w
+unfolding scaled
+scaled-small h phi w e s = subst Small (sym e) (record {
+  long = length-tabulate 64 (λ c. getD phi (h ⊙ c) 0);
+  most = λ b l. rw getD-tabulate (s .most (h ⊙ b) (product-lt h b));
+})

@@ -1,0 +1,107 @@
+-- The laws of a check node's steps.
+use mathlib.Core.Path.{_≡_, refl, sym, ap, _∙_, subst}
+use mathlib.Core.List.{List}
+use Prim.Native.Nat.{ℕ, zero, suc, _+_, _-_, _*_, _/_, _%_, _≤_, _<_, min}
+use native.Mathlib.Nat.{min-eq-left, min-eq-right}
+use native.Mathlib.Decide.{decLt}
+use native.Mathlib.Omega.{arith}
+use lib.ListN.{length, getD, set, length-set}
+use lib.Seq.{getD-set-same, getD-set-other}
+use Rattle.vector.specs.Vector.{leastTo}
+use Rattle.nodes.specs.Steps.{step, fourSteps, sourceOf, stepsAt, Held, Raised, Mapped}
+
+-- the smaller of two numbers, by cases
+pub min-cases : (a b : ℕ) → Dec (a < b) → (P : ℕ → Type 0) → (a ≤ b → P a) → (b ≤ a → P b) → P (min a b)
+min-cases a b (yes l) P f g = subst P (sym (min-eq-left (omega arith))) (f (omega arith))
+min-cases a b (no l) P f g = subst P (sym (min-eq-right (omega arith))) (g (omega arith))
+
+-- what a step leaves, plus the penalty that it went to, is within the same bounds
+step-within : (held y x w : ℕ) → Held (held + y) → x ≤ 8191 → Raised w → Held (step held y x w + x)
+step-within held y x w h l r =
+    let low = h .least in
+    let high = h .most in
+    let wl = r .least in
+    let wh = r .most in
+    min-cases (held + y - x) w (decLt (held + y - x) w) (λ m. Held (m + x))
+    (λ s. record { least = omega arith; most = omega arith })
+    (λ s. record { least = omega arith; most = omega arith })
+
+-- the same of a number that is what a step leaves
+pub step-held : {r : ℕ} (held y x w : ℕ) → Held (held + y) → x ≤ 8191 → Raised w → r ≡ step held y x w → Held (r + x)
+step-held held y x w h l z e = subst (λ (m : ℕ). Held (m + x)) (sym e) (step-within held y x w h l z)
+
+-- and it is the least sum so far, one sum more, plus 8,191
+pub step-least : (held y x w t n : ℕ) (g : ℕ → ℕ) → held + y ≡ leastTo (n - 1) g + 8191 → w ≡ t + 8191 → g n ≡ t + x → x ≤ 8191
+    → step held y x w + x ≡ leastTo n g + 8191
+unfolding leastTo
+step-least held y x w t zero g e f k l =
+    let a : held + y ≡ g 0 + 8191 = e in
+    min-cases (held + y - x) w (decLt (held + y - x) w) (λ m. m + x ≡ g 0 + 8191) (λ s. omega arith) (λ s. omega arith)
+step-least held y x w t (suc n) g e f k l =
+    let same : suc n - 1 ≡ n = omega arith in
+    let a : held + y ≡ leastTo n g + 8191 = e ∙ ap (λ (z : ℕ). leastTo z g + 8191) same in
+    min-cases (leastTo n g) (g (suc n)) (decLt (leastTo n g) (g (suc n))) (λ z. step held y x w + x ≡ z + 8191)
+    (λ u. min-cases (held + y - x) w (decLt (held + y - x) w) (λ m. m + x ≡ leastTo n g + 8191) (λ s. omega arith) (λ s. omega arith))
+    (λ u. min-cases (held + y - x) w (decLt (held + y - x) w) (λ m. m + x ≡ g (suc n) + 8191) (λ s. omega arith) (λ s. omega arith))
+
+-- steps 4 q to 4 q + 3 for a value of a block, from where the copies are read
+pub steps-are : (copies x : List ℕ) (q y block i f0 f1 f2 f3 held before : ℕ) → i < 8 → f0 ≡ sourceOf q 0 block → f1 ≡ sourceOf q 1 block → f2 ≡ sourceOf q 2 block → f3 ≡ sourceOf q 3 block
+    → held ≡ before
+    → fourSteps y (getD x (4 * q) 0) (getD x (4 * q + 1) 0) (getD x (4 * q + 2) 0) (getD x (4 * q + 3) 0) (getD copies (f0 + i) 0) (getD copies (f1 + i) 0) (getD copies (f2 + i) 0) (getD copies (f3 + i) 0) held
+    ≡ stepsAt copies x q y (8 * block + i) before
+unfolding stepsAt
+steps-are copies x q y block i f0 f1 f2 f3 held before l e0 e1 e2 e3 e =
+    let d : block ≡ (8 * block + i) / 8 = omega arith in
+    let m : i ≡ (8 * block + i) % 8 = omega arith in
+    cc
+
+-- a loop that maps the entries of a list in rising order
+module _ {f : ℕ → ℕ → ℕ} {lo : ℕ} {before : List ℕ} where
+  -- where it begins
+  pub map-none : {n : ℕ} → n ≡ lo → length before ≡ 64 → Mapped f lo n before before
+  map-none z e = record { long = e; done = λ b l m. absurd (omega arith); earlier = λ b l. refl; later = λ b l. refl }
+
+  -- one entry more
+  pub map-more : {n m x : ℕ} {after : List ℕ} → Mapped f lo n before after → lo ≤ n → n < 64 → m ≡ n + 1 → x ≡ f n (getD before n 0)
+      → Mapped f lo m before (set after n x)
+  map-more {n} {m} {x} {after} h l s k e = record {
+    long = length-set after n x ∙ h .long;
+    done = λ b p q. go b p q (decLt b n);
+    earlier = λ b p. getD-set-other after n b x 0 (λ q. absurd (omega arith)) ∙ h .earlier b p;
+    later = λ b p. getD-set-other after n b x 0 (λ q. absurd (omega arith)) ∙ h .later b (omega arith);
+  }
+    where
+      go : (b : ℕ) → lo ≤ b → b < m → Dec (b < n) → getD (set after n x) b 0 ≡ f b (getD before b 0)
+      go b p q (yes t) = getD-set-other after n b x 0 (λ z. absurd (omega arith)) ∙ h .done b p t
+      go b p q (no t) =
+          let z : n ≡ b = omega arith in
+          let w : n < length after = (let k = h .long in omega arith) in
+          subst (λ (j : ℕ). getD (set after n x) j 0 ≡ f j (getD before j 0)) z (getD-set-same after n x 0 w ∙ e)
+
+-- where it ends
+pub map-all : {f : ℕ → ℕ → ℕ} {lo n m : ℕ} {before after : List ℕ} → Mapped f lo n before after → n ≡ m → Mapped f lo m before after
+map-all {f} {lo} {n} {m} {before} {after} h e = subst (λ (k : ℕ). Mapped f lo k before after) e h
+
+-- by another function that does the same there
+pub map-ext : {f g : ℕ → ℕ → ℕ} {lo n : ℕ} {before after : List ℕ} → Mapped f lo n before after → ((b z : ℕ) → lo ≤ b → b < n → f b z ≡ g b z)
+    → Mapped g lo n before after
+map-ext {f} {g} {lo} {n} {before} {after} h e = record {
+  long = h .long;
+  done = λ b p q. h .done b p q ∙ e b (getD before b 0) p q;
+  earlier = h .earlier;
+  later = h .later;
+}
+
+-- one part mapped after the other
+pub map-join : {f : ℕ → ℕ → ℕ} {lo mid n : ℕ} {before between after : List ℕ} → lo ≤ mid → mid ≤ n → Mapped f lo mid before between → Mapped f mid n between after
+    → Mapped f lo n before after
+map-join {f} {lo} {mid} {n} {before} {between} {after} l m h k = record {
+  long = k .long;
+  done = λ b p q. go b p q (decLt b mid);
+  earlier = λ b p. k .earlier b (omega arith) ∙ h .earlier b p;
+  later = λ b p. k .later b p ∙ h .later b (omega arith);
+}
+  where
+    go : (b : ℕ) → lo ≤ b → b < n → Dec (b < mid) → getD after b 0 ≡ f b (getD before b 0)
+    go b p q (yes t) = k .earlier b t ∙ h .done b p t
+    go b p q (no t) = k .done b (omega arith) q ∙ ap (f b) (h .later b (omega arith))

@@ -1,0 +1,32 @@
+// The check node of a kernel.
+use crate::low_bits::low_bits;
+use crate::steps::least_sums;
+ghost use mathlib.Core.Path.{_≡_};
+ghost use Rattle.scms.specs.Nodes.{checkNode};
+ghost use Rattle.nodes.specs.Parts.{lowBits};
+ghost use Rattle.nodes.specs.Steps.{columns};
+
+// Phi's vector in the order of the steps: its penalty at h times the value of each step. Made once for each node, so that each product is taken once.
+fn columns(phi: &[u16; 64], h: u8) -> [u16; 64]
+    ensures { λ r. ⌜ r ≡ columns h (now (phi .entry)) ⌝ }
+{
+    let products = gf64::multiples_by_columns(h);
+    let mut r = [0u16; 64];
+    let mut k: usize = 0;
+    while k < 64 {
+        let at = products[k] as usize;
+        r[k] = phi[at];
+        k += 1;
+    }
+    r
+}
+
+// A check node, with the kernel's coefficient h: its 64 entries. Of each penalty the thirteen low bits count.
+pub fn check_node(theta: &[u16; 64], phi: &[u16; 64], h: u8) -> [u16; 64]
+    ensures { λ r. ⌜ r ≡ checkNode h (lowBits (now (theta .entry))) (lowBits (now (phi .entry))) ⌝ }
+{
+    let low_theta = low_bits(theta);
+    let low_phi = low_bits(phi);
+    let x = columns(&low_phi, h);
+    least_sums(&low_theta, &x)
+}
