@@ -8,6 +8,7 @@ use native.Mathlib.Omega.{arith}
 use lib.ListN.{length, getD, set, length-set}
 use lib.Seq.{getD-set-same, getD-set-other}
 use Rattle.vector.specs.Vector.{leastTo}
+use Rattle.vector.proofs.Laws.{Filled, fill-more}
 use Rattle.nodes.specs.Steps.{step, fourSteps, sourceOf, stepsAt, Held, Raised, Mapped}
 
 -- the smaller of two numbers, by cases
@@ -77,6 +78,10 @@ module _ {f : ℕ → ℕ → ℕ} {lo : ℕ} {before : List ℕ} where
           let z : n ≡ b = omega arith in
           let w : n < length after = (let k = h .long in omega arith) in
           subst (λ (j : ℕ). getD (set after n x) j 0 ≡ f j (getD before j 0)) z (getD-set-same after n x 0 w ∙ e)
+
+-- a loop that fills a list several entries at a time: one entry more, of which the next number is given
+pub fill-next : {n b m x : ℕ} {f : ℕ → ℕ} {xs : List ℕ} → Filled n f xs b → b < n → m ≡ b + 1 → x ≡ f b → Filled n f (set xs b x) m
+fill-next {n} {b} {m} {x} {f} {xs} h l k e = subst (λ (j : ℕ). Filled n f (set xs b x) j) (sym k) (fill-more h l e)
 
 -- where it ends
 pub map-all : {f : ℕ → ℕ → ℕ} {lo n m : ℕ} {before after : List ℕ} → Mapped f lo n before after → n ≡ m → Mapped f lo m before after

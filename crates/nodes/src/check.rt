@@ -1,4 +1,5 @@
 // The check node of a kernel.
+use crate::gather::gathered;
 use crate::low_bits::low_bits;
 use crate::steps::least_sums;
 ghost use mathlib.Core.Path.{_≡_};
@@ -11,14 +12,7 @@ fn columns(phi: &[u16; 64], h: u8) -> [u16; 64]
     ensures { λ r. ⌜ r ≡ columns h (now (phi .entry)) ⌝ }
 {
     let products = gf64::multiples_by_columns(h);
-    let mut r = [0u16; 64];
-    let mut k: usize = 0;
-    while k < 64 {
-        let at = products[k] as usize;
-        r[k] = phi[at];
-        k += 1;
-    }
-    r
+    gathered(phi, &products)
 }
 
 // A check node, with the kernel's coefficient h: its 64 entries. Of each penalty the thirteen low bits count.

@@ -2,6 +2,7 @@
 // own, on the side of the channel. The bodies are shaped for the compiler, which works on eight entries at a time.
 mod check;
 mod copies;
+mod gather;
 mod low_bits;
 mod steps;
 mod variable;

@@ -1,5 +1,6 @@
 // The variable node of a kernel: three plain loops, which sum, subtract the least and clip.
 use crate::copies::swapped;
+use crate::gather::gathered;
 use crate::low_bits::low_bits;
 ghost use mathlib.Core.Path.{_≡_};
 ghost use mathlib.Core.Bool.{cond};
@@ -16,14 +17,7 @@ fn scaled(phi: &[u16; 64], h: u8) -> [u16; 64]
     ensures { λ r. ⌜ r ≡ scaled h (now (phi .entry)) ⌝ }
 {
     let products = gf64::multiples(h);
-    let mut r = [0u16; 64];
-    let mut c: usize = 0;
-    while c < 64 {
-        let at = products[c] as usize;
-        r[c] = phi[at];
-        c += 1;
-    }
-    r
+    gathered(phi, &products)
 }
 
 // A vector with its entries i and i + u mod 8 (the field's sum) exchanged: for each of u's three low bits that is set, neighbours at that distance.
