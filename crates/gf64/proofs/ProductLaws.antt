@@ -6,6 +6,7 @@ use native.Mathlib.Omega.{arith}
 use lib.Bits.{xor-mod}
 use lib.Dec.{lit<}
 use Rattle.gf64.specs.Field.{_⊕_, _⊙_, timesA, productBits, lowSix, power, inverse, NonZero}
+use Rattle.gf64.specs.Formula.{unreduced, reduced}
 use Rattle.gf64.proofs.SumLaws.{last-bit, sum-lt, sum-self, sum-zero, zero-sum, sum-cross}
 use Rattle.gf64.proofs.Table.{pair, inverse-at}
 
@@ -36,10 +37,14 @@ product-low : (x y : ℕ) → x ⊙ y ≡ lowSix x ⊙ lowSix y
 unfolding _⊙_
 product-low x y = ap₂ (productBits 6) (sym (low-symbol (lowSix x) (low-lt x))) (sym (low-symbol (lowSix y) (low-lt y)))
 
+-- the formula by which `product` computes gives the product (Table)
+pub product-formula : (x y : ℕ) → x ⊙ y ≡ reduced (unreduced (lowSix x) (lowSix y))
+product-formula x y = product-low x y ∙ pair (lowSix x) (lowSix y) (low-lt x) (low-lt y) .formula
+
 -- ---- one step of the product
 
 -- a bit times a symbol: 0 or the symbol
-pub bit-lt : (b y : ℕ) → b < 2 → y < 64 → b * y < 64
+bit-lt : (b y : ℕ) → b < 2 → y < 64 → b * y < 64
 bit-lt zero y hb hy = subst (λ (p : ℕ). p < 64) (sym (zero-mul y)) (lit< tt)
 bit-lt (suc zero) y hb hy = subst (λ (p : ℕ). p < 64) (sym (one-mul y)) hy
 bit-lt (suc (suc b)) y hb hy = absurd (omega arith)

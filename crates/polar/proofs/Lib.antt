@@ -8,6 +8,7 @@ pub mod ByHalves
 pub mod OneToOne
 pub mod JoinLaws
 pub mod BlockLaws
+pub mod FourLaws
 pub mod CodeLaws
 pub mod EncodeLaws
 pub mod SizeLaws

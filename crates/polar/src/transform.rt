@@ -21,6 +21,27 @@ fn join_kernels(half: usize, start: usize, coefs: &[u8], word: &mut [u8])
     }
 }
 
+// The transform of a block of four places by its two layers, with no loop: two kernels in each, of neighbours and then of the halves.
+fn transform_four(start: usize, stride: usize, coefs: &[u8], word: &mut [u8])
+    requires { ⌜ Block 2 2 start stride (now coefs) (now word) ⌝ }
+    ensures { λ _. ⌜ now (word .exit) ≡ blockTransform 2 start stride (now (coefs .entry)) (now (word .entry)) ⌝ }
+{
+    let first = start + stride;
+    let a = word[0];
+    let b = word[1];
+    let c = word[2];
+    let d = word[3];
+    let sum = c ^ d;
+    let left = gf64::product(coefs[first], b);
+    let right = gf64::product(coefs[first + 1], d);
+    let third = gf64::product(coefs[start], sum);
+    let fourth = gf64::product(coefs[start + 1], right);
+    word[0] = (a ^ b) ^ sum;
+    word[1] = left ^ right;
+    word[2] = third;
+    word[3] = fourth;
+}
+
 // The transform of a block of 2^layers places, half of them in each half: first each half by itself, one layer less, then the
 // kernels that join them. Those have their coefficients from start on, the next layer's come stride further on.
 pub(crate) fn transform_block(
@@ -35,6 +56,10 @@ pub(crate) fn transform_block(
     ensures { λ _. ⌜ now (word .exit) ≡ blockTransform layers start stride (now (coefs .entry)) (now (word .entry)) ⌝ }
 {
     if layers == 0 {
+        return;
+    }
+    if layers == 2 {
+        transform_four(start, stride, coefs, word);
         return;
     }
     let quarter = half / 2;

@@ -12,20 +12,26 @@ pub fn is_outside(x: u32, low: u32, high: u32) -> bool
     high < x
 }
 
-// Whether some byte of s is below low or above high.
+// Whether some byte of s is below low or above high. The least and the greatest are kept on the way and judged at the end: with no way out of the loop
+// the compiler takes many bytes at a time.
 pub fn any_outside(s: &[u8], low: u8, high: u8) -> bool
     ensures { λ r. ⌜ r ≡ anyOutside low high (now (s .entry)) ⌝ }
 {
+    let mut least = low;
+    let mut most = high;
     let mut i: usize = 0;
     while i < s.len() {
         let x = s[i];
-        if x < low {
-            return true;
+        if x < least {
+            least = x;
         }
-        if high < x {
-            return true;
+        if most < x {
+            most = x;
         }
         i += 1;
     }
-    false
+    if least < low {
+        return true;
+    }
+    high < most
 }
