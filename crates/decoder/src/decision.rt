@@ -3,19 +3,19 @@ ghost use mathlib.Core.Path.{_≡_};
 ghost use Rattle.polar.specs.Code.{kindOf};
 ghost use Rattle.scms.specs.Decision.{smallest, decision};
 
-// The smallest value whose penalty is least.
+// The smallest value whose penalty is least: the first at which the least is found.
 fn smallest(v: &[u16; 64]) -> u8
     ensures { λ r. ⌜ r ≡ smallest (now (v .entry)) ⌝ }
 {
+    let least = vector::least_of(v);
     let mut b: usize = 0;
-    let mut i: usize = 1;
-    while i < 64 {
-        if v[i] < v[b] {
-            b = i;
+    while b < 63 {
+        if v[b] == least {
+            return b as u8;
         }
-        i += 1;
+        b += 1;
     }
-    b as u8
+    63
 }
 
 // The symbol of a place with this map byte: byte 0 is a message place, which takes the smallest value whose penalty is least; any other

@@ -1,7 +1,7 @@
 -- The laws of penalties and the bits of them that count.
 use mathlib.Core.Path.{_≡_, sym, subst}
 use mathlib.Core.List.{List}
-use Prim.Native.Nat.{ℕ, _%_}
+use Prim.Native.Nat.{ℕ, _%_, _<_}
 use native.Mathlib.Omega.{arith}
 use lib.ListN.{getD}
 use Rattle.vector.proofs.Laws.{length-tabulate, getD-tabulate, tabulate-by}
@@ -22,6 +22,11 @@ low-small v e = subst Small (sym e) (record {
 pub low-same : (v : List ℕ) → Small v → lowBits v ≡ v
 unfolding lowBits
 low-same v s = sym (tabulate-by 0 64 (λ b. getD v b 0 % 8192) v (s .long) (λ b l. let m = s .most b l in omega arith))
+
+-- the bits that count of one entry
+pub low-at : (v : List ℕ) (b : ℕ) → b < 64 → getD (lowBits v) b 0 ≡ getD v b 0 % 8192
+unfolding lowBits
+low-at v b l = getD-tabulate 0 64 (λ k. getD v k 0 % 8192) b l
 
 -- phi's entries in another order are no larger
 pub scaled-small : (h : ℕ) (phi w : List ℕ) → w ≡ scaled h phi → Small phi → Small w

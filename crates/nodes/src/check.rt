@@ -9,7 +9,7 @@ ghost use Rattle.nodes.specs.Steps.{columns};
 
 // Phi's vector in the order of the steps: its penalty at h times the value of each step. Made once for each node, so that each product is taken once.
 fn columns(phi: &[u16; 64], h: u8) -> [u16; 64]
-    ensures { λ r. ⌜ r ≡ columns h (now (phi .entry)) ⌝ }
+    ensures { λ r. ⌜ r ≡ columns h (lowBits (now (phi .entry))) ⌝ }
 {
     let products = gf64::multiples_by_columns(h);
     gathered(phi, &products)
@@ -20,7 +20,6 @@ pub fn check_node(theta: &[u16; 64], phi: &[u16; 64], h: u8) -> [u16; 64]
     ensures { λ r. ⌜ r ≡ checkNode h (lowBits (now (theta .entry))) (lowBits (now (phi .entry))) ⌝ }
 {
     let low_theta = low_bits(theta);
-    let low_phi = low_bits(phi);
-    let x = columns(&low_phi, h);
+    let x = columns(phi, h);
     least_sums(&low_theta, &x)
 }

@@ -9,12 +9,12 @@ ghost use lib.Dec.{ltb};
 ghost use lib.ListN.{length, getD};
 ghost use Rattle.gf64.specs.Field.{_⊕_};
 ghost use Rattle.scms.specs.Nodes.{scaled, sums, clipped, exceeding};
-ghost use Rattle.nodes.specs.Parts.{Small, IsVariableNode};
+ghost use Rattle.nodes.specs.Parts.{lowBits, Small, IsVariableNode};
 ghost use Rattle.nodes.specs.Steps.{swapped, Mapped};
 
 // Phi's vector in the order of c: its penalty at h times c, for each c. Made once for each node, so that each product is taken once.
 fn scaled(phi: &[u16; 64], h: u8) -> [u16; 64]
-    ensures { λ r. ⌜ r ≡ scaled h (now (phi .entry)) ⌝ }
+    ensures { λ r. ⌜ r ≡ scaled h (lowBits (now (phi .entry))) ⌝ }
 {
     let products = gf64::multiples(h);
     gathered(phi, &products)
@@ -47,8 +47,8 @@ fn block_sums(t: &[u16; 64], x: &[u16; 64], to: [u16; 64], block: usize, from: u
 
 // The sums of a variable node, theta's symbol being u: for each c, theta's penalty at u + c (the field's sum) plus phi's at h times c.
 fn sums(theta: &[u16; 64], phi: &[u16; 64], h: u8, u: u8) -> [u16; 64]
-    requires { ⌜ (u < 64) × Small (now theta) × Small (now phi) ⌝ }
-    ensures { λ r. ⌜ r ≡ sums h u (now (theta .entry)) (now (phi .entry)) ⌝ }
+    requires { ⌜ (u < 64) × Small (now theta) ⌝ }
+    ensures { λ r. ⌜ r ≡ sums h u (now (theta .entry)) (lowBits (now (phi .entry))) ⌝ }
 {
     let x = scaled(phi, h);
     let symbol = u as usize;
@@ -108,8 +108,7 @@ pub fn variable_node(theta: &[u16; 64], phi: &[u16; 64], h: u8, u: u8, cap: u16)
     ensures { λ r. ⌜ IsVariableNode cap h u (now (theta .entry)) (now (phi .entry)) (r .llrs) (r .count) ⌝ }
 {
     let low_theta = low_bits(theta);
-    let low_phi = low_bits(phi);
-    let all = sums(&low_theta, &low_phi, h, u % 64);
+    let all = sums(&low_theta, phi, h, u % 64);
     let low = vector::subtract_least(&all);
     clip_llrs(cap, &low)
 }

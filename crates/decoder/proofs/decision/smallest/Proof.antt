@@ -1,24 +1,25 @@
--- `smallest` meets its contract: b is the smallest index, of those before i, at which the entry is least.
-use mathlib.Core.Path.{_≡_, refl, ap, _∙_}
-use mathlib.Core.Logic.{⊎-elim}
-use Prim.Native.Nat.{ℕ, _-_, _<_, _≤_}
+-- `smallest` meets its contract: the least is not among the entries before b.
+use mathlib.Core.Path.{_≡_}
+use Prim.Native.Nat.{ℕ, _-_, _≤_, _<_}
 use native.Mathlib.Omega.{arith}
+use borrow.Author.Count.{below-more}
 use borrow.Author.Needs.{needs}
 use lib.ListN.{getD}
-use Rattle.scms.specs.Decision.{smallestTo, smallest}
-use Rattle.decoder.proofs.Laws.{smallest-more}
+use Rattle.decoder.proofs.Laws.{smallest-found, smallest-last}
 use Rattle.decoder.proofs.decision.smallest.Statement.{statement}
 use Rattle.decoder.proofs.decision.smallest.Tie as tie
 
 abbrev Inv-loop : tie.InvT-loop
-Inv-loop v b₀ i₀ b i = (1 ≤ i) × (i ≤ 64) × (b < i) × (b ≡ smallestTo (i - 1) (λ k. getD v k 0))
+Inv-loop v least b₀ b = (b ≤ 63) × ((k : ℕ) → k < b → getD v k 0 ≡ least → ⊥)
 
 abbrev μ-loop : tie.MeasureT-loop
-μ-loop v b₀ i₀ b i = 64 - i
+μ-loop v least b₀ b = 63 - b
+
+least-of-requires : tie.Need-least-of-requires Inv-loop μ-loop
+least-of-requires c κs = search needs
 
 loop-holds : tie.Need-loop-holds Inv-loop μ-loop
-unfolding smallestTo
-loop-holds c = (omega arith, omega arith, omega arith, refl)
+loop-holds c = (omega arith, λ k l. absurd (omega arith))
 
 mul-if1 : tie.Need-mul-if1 Inv-loop μ-loop
 mul-if1 c = search needs
@@ -26,38 +27,28 @@ mul-if1 c = search needs
 element-copy-out-if1 : tie.Need-element-copy-out-if1 Inv-loop μ-loop
 element-copy-out-if1 c = search needs
 
-mul-if1-2 : tie.Need-mul-if1-2 Inv-loop μ-loop
-mul-if1-2 c = search needs
+cast-result : tie.Need-cast-result Inv-loop μ-loop
+cast-result c = search needs
 
-element-copy-out-if1-2 : tie.Need-element-copy-out-if1-2 Inv-loop μ-loop
-element-copy-out-if1-2 c = search needs
+returns : tie.Need-returns Inv-loop μ-loop
+returns c =
+    let at = c .before .before .before .loop in
+    smallest-found _ (at .b) (c .before .before .before .before .least-of .ensures) (omega arith) (at .inv .1) (c .if1 .taken)
 
-add-i : tie.Need-add-i Inv-loop μ-loop
-add-i c = search needs
+add-b : tie.Need-add-b Inv-loop μ-loop
+add-b c = search needs
 
 loop-less : tie.Need-loop-less Inv-loop μ-loop
 loop-less c = search needs
 
 loop-again : tie.Need-loop-again Inv-loop μ-loop
-loop-again c =
-    let at = c .before .before .before .before .loop in
-    let v = c .before .before .before .before .before .args .v .now in
-    let m = smallest-more (at .i) (at .b) (λ k. getD v k 0) (at .inv .0) (at .inv .3) in
-    ⊎-elim
-    (λ w. (omega arith, omega arith, omega arith, w .1 ∙ m .0 (w .0 .taken)))
-    (λ w. (omega arith, omega arith, omega arith, w .1 ∙ m .1 (w .0 .left)))
-    (c .if1 .came)
+loop-again c = (omega arith, below-more _ _ (c .before .before .before .loop .inv .1) (c .if1 .left))
 
-cast-result : tie.Need-cast-result Inv-loop μ-loop
-cast-result c = search needs
-
-returns : tie.Need-returns Inv-loop μ-loop
-unfolding smallest
-returns c =
+returns-2 : tie.Need-returns-2 Inv-loop μ-loop
+returns-2 c =
     let at = c .before .loop in
-    let v = c .before .before .args .v .now in
-    let e : at .i - 1 ≡ 63 = omega arith in
-    at .inv .3 ∙ ap (λ (x : ℕ). smallestTo x (λ k. getD v k 0)) e
+    let e : 63 ≡ at .b = omega arith in
+    smallest-last _ (c .before .before .least-of .ensures) (λ k l. at .inv .1 k (omega arith))
 
 pub smallest-spec : {M : Type 1} → statement M
 smallest-spec =
@@ -65,13 +56,13 @@ smallest-spec =
     (tie.spec
     Inv-loop
     μ-loop
+    least-of-requires
     loop-holds
     mul-if1
     element-copy-out-if1
-    mul-if1-2
-    element-copy-out-if1-2
-    add-i
+    cast-result
+    returns
+    add-b
     loop-less
     loop-again
-    cast-result
-    returns)
+    returns-2)

@@ -10,7 +10,7 @@ use Rattle.nodes.proofs.gather.gathered.Statement.{statement}
 use Rattle.nodes.proofs.gather.gathered.Tie as tie
 
 abbrev Inv-loop : tie.InvT-loop
-Inv-loop v products r₀ k₀ r k = Filled 64 (λ j. getD v (getD products j 0) 0) r k × (k % 4 ≡ 0)
+Inv-loop v products r₀ k₀ r k = Filled 64 (λ j. getD v (getD products j 0) 0 % 8192) r k × (k % 4 ≡ 0)
 
 abbrev μ-loop : tie.MeasureT-loop
 μ-loop v products r₀ k₀ r k = 64 - k

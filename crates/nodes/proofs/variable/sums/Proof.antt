@@ -10,10 +10,11 @@ use Rattle.vector.specs.Vector.{tabulate}
 use Rattle.vector.proofs.Laws.{tabulate-by}
 use Rattle.gf64.specs.Field.{_⊕_}
 use Rattle.scms.specs.Nodes.{sumAt, sums}
+use Rattle.nodes.specs.Parts.{lowBits}
 use Rattle.nodes.specs.Steps.{Mapped}
 use Rattle.nodes.proofs.StepLaws.{map-none, map-ext, map-join, map-all}
 use Rattle.nodes.proofs.TurnLaws.{turned-at, swapped-small}
-use Rattle.nodes.proofs.LowLaws.{scaled-small}
+use Rattle.nodes.proofs.LowLaws.{low-small, scaled-small}
 use Rattle.nodes.proofs.variable.sums.Statement.{statement}
 use Rattle.nodes.proofs.variable.sums.Tie as tie
 
@@ -51,7 +52,7 @@ block-sums-requires c κs =
     let p = entry head .pre in
     let l = within (c .before .before) in (
       swapped-small (a .theta .now) (a .u % 8) (omega arith) (head .before .turned .ensures) (p .1),
-      scaled-small (a .h) (a .phi .now) _ (head .before .before .before .scaled .ensures) (p .2),
+      scaled-small (a .h) (lowBits (a .phi .now)) _ (head .before .before .before .scaled .ensures) (low-small (a .phi .now) refl),
       omega arith,
       head .loop .inv .0 .long,
       omega arith,
