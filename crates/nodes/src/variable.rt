@@ -1,4 +1,4 @@
-// The variable node of a kernel: three plain loops, which sum, subtract the least and clip.
+// The variable node of a kernel: sums, eight at a time; these less the least; and clipped.
 use crate::copies::swapped;
 use crate::gather::gathered;
 use crate::low_bits::low_bits;
