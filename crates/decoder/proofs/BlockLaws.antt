@@ -21,13 +21,17 @@ use Rattle.polar.proofs.BlockLaws as polar
 use Rattle.polar.proofs.BlockLaws.{tail, put, tail-drop, front-long, lent-tail, lent-both, split}
 use Rattle.vector.proofs.Laws.{sum-ext}
 use Rattle.vector.proofs.SliceLaws.{vector-drop}
-use Rattle.scms.specs.Nodes.{checkNode, variableNode, clippedEntries}
+use Rattle.scms.specs.Nodes.{scaled, checkNode, clipped, exceeding, variableNode, clippedEntries}
 use Rattle.scms.specs.Decision.{decision}
 use Rattle.scms.specs.Halves.{Vectors, decodeTree, frameTree}
 use Rattle.scms.proofs.NodeLaws.{check-zero, check-most, variable-zero, variable-cap}
 use Rattle.scms.proofs.TreeLists.{frame-at}
 use Rattle.scms.proofs.TreeDecoder.{decoded-symbols, word-transform}
-use Rattle.decoder.specs.Parts.{Kept, KernelsGiven, CheckNodesWritten, FirstSymbols, AreVariableNodes, clippedTo, VariableNodesWritten, OnePlace, PlaceDecoded, BlockVector, BlockGiven, vectorsFrom, blockAnswer, BlockDecoded, WorkDecoded}
+use Rattle.nodes.specs.Parts.{lessFrom}
+use Rattle.nodes.proofs.LowLaws.{scaled-small}
+use Rattle.nodes.proofs.NodeLaws.{llrs-from, count-from}
+use Rattle.decoder.specs.Parts.{Kept, LayerGiven, KernelsGiven, CheckNodesWritten, FirstSymbols, OrderedGiven, lessAt, AreVariableNodes, clippedTo, VariableNodesWritten, OnePlace, PlaceDecoded, BlockVector, BlockGiven, vectorsFrom, blockAnswer, BlockDecoded, WorkDecoded}
+use Rattle.decoder.proofs.LayerLaws.{source-small}
 use Rattle.decoder.proofs.HalvesLaws.{Step, step}
 
 -- ---- words
@@ -109,7 +113,7 @@ module _ {L start cap o : ℕ} {cs map frame work word symbols report : List ℕ
       }
 
   -- what the nodes of its kernels are given, the block's vectors being as they were
-  pub at-layer : {xs : List ℕ} → length xs ≡ length work → Kept next (frame ++ work) (frame ++ xs) → KernelsGiven o half start cs frame xs
+  at-layer : {xs : List ℕ} → length xs ≡ length work → Kept next (frame ++ work) (frame ++ xs) → LayerGiven o half frame xs
   at-layer {xs} lx k =
       let z = polar.at-sizes ne (g .block) in
       let t = two in
@@ -119,18 +123,43 @@ module _ {L start cap o : ℕ} {cs map frame work word symbols report : List ℕ
       let b = g .in-work in
       record {
         few = z .few;
-        few-coefs = g .block .few-coefs;
-        room = room-join;
         whole = g .whole;
         in-work = omega arith;
         long = omega arith;
         most = λ i l. subst (AtMost 8191) (sym (k (o + i) (omega arith))) (g .vectors i (omega arith) .most);
       }
+
+  -- and the check nodes
+  pub at-kernels : KernelsGiven o half start cs frame work
+  at-kernels = record { layer = at-layer refl (λ i l. refl); few-coefs = g .block .few-coefs; room = room-join }
     where
       room-join : start + half ≤ length cs
       room-join =
           let a = take half word in
           polar.at-joins ne (g .block) a refl (tail half (a ++ drop half word)) refl .room
+
+  -- the second half of the report has room for φ's vectors
+  pub at-room : 64 * half ≤ length (tail (64 * half) report)
+  at-room =
+      let t = two in
+      let c = g .report-long in
+      let d = ap length (tail-drop (64 * half) report) ∙ length-drop (64 * half) report in
+      omega arith
+
+  -- with other numbers there the block is given what it was
+  pub at-report : {rs : List ℕ} → length rs ≡ length report → BlockGiven L start cap o cs map frame work word symbols rs
+  at-report e = record {
+    block = g .block;
+    cap-small = g .cap-small;
+    coefs = g .coefs;
+    map-long = g .map-long;
+    symbols-long = g .symbols-long;
+    report-long = e ∙ g .report-long;
+    whole = g .whole;
+    in-work = g .in-work;
+    long = g .long;
+    vectors = g .vectors;
+  }
 
   -- what the call on a half is given, its vectors being the nodes' that stand after the block's own
   half-given : (s : ℕ) (bytes xs w ss rs : List ℕ) → length bytes ≡ half → length xs ≡ length work → Block (L - 1) (half / 2) s stride cs w
@@ -155,9 +184,9 @@ module _ {L start cap o : ℕ} {cs map frame work word symbols report : List ℕ
       }
 
   -- the first half, from check nodes
-  pub at-first : {work1 : List ℕ} → length work1 ≡ length work → CheckNodesWritten o half start cs frame work work1
+  pub at-first : {work1 X : List ℕ} → length work1 ≡ length work → CheckNodesWritten o half start cs frame work work1 X
       → BlockGiven (L - 1) (start + stride) cap next cs (take half map) frame work1 (take half word) (take half symbols) (take (64 * half) report)
-  at-first {work1} l1 ch =
+  at-first {work1} {X} l1 ch =
       let z = at-sizes in
       let t = two in
       half-given (start + stride) (take half map) work1 (take half word) (take half symbols) (take (64 * half) report)
@@ -167,17 +196,18 @@ module _ {L start cap o : ℕ} {cs map frame work word symbols report : List ℕ
       (check-vector (getD cs (start + i) 1) cs (vectorAt (frame ++ work) (o + i)) (vectorAt (frame ++ work) (o + (half + i))) (start + i) refl (g .coefs)
       (g .vectors i (omega arith)) (g .vectors (half + i) (omega arith))))
 
-  -- what is known after the first half
-  pub record FirstHalf (work1 work2 wA sA rA : List ℕ) (left : ℕ) : Type 0 where
+  -- what is known after the first half: X is what the check nodes left in the second half of the report
+  pub record FirstHalf (work1 X work2 wA sA rA : List ℕ) (left : ℕ) : Type 0 where
     pub checked-long : length work1 ≡ length work
-    pub checked : CheckNodesWritten o half start cs frame work work1
+    pub checked : CheckNodesWritten o half start cs frame work work1 X
+    pub in-report : drop (64 * half) report ≡ X
     pub work-long : length work2 ≡ length work1
     pub word-long : length wA ≡ length (take half word)
     pub symbols-long : length sA ≡ length (take half symbols)
     pub report-long : length rA ≡ length (take (64 * half) report)
     pub decoded : WorkDecoded (L - 1) (start + stride) cap next cs (take half map) frame work1 work2 wA sA rA left
 
-  module _ {work1 work2 wA sA rA : List ℕ} {left : ℕ} (f : FirstHalf work1 work2 wA sA rA left) where
+  module _ {work1 X work2 wA sA rA : List ℕ} {left : ℕ} (f : FirstHalf work1 X work2 wA sA rA left) where
     -- the word so far
     abbrev w : List ℕ
     w = wA ++ drop half word
@@ -195,8 +225,27 @@ module _ {L start cap o : ℕ} {cs map frame work word symbols report : List ℕ
     in-first t l = List·getD-append wA (drop half word) 0 t (let e = wA-long in omega arith)
 
     -- what the variable nodes are given
-    pub at-variable : KernelsGiven o half start cs frame work2
+    pub at-variable : LayerGiven o half frame work2
     at-variable = at-layer (f .work-long ∙ f .checked-long) kept2
+
+    -- the part of the report that they are lent
+    abbrev ordered : List ℕ
+    ordered = tail (64 * half) (rA ++ drop (64 * half) report)
+
+    -- is what the check nodes left there
+    ordered-same : ordered ≡ X
+    ordered-same = lent-tail (64 * half) report rA (f .report-long) (at-sizes .in-report) ∙ f .in-report
+
+    -- φ's vectors in the order of c
+    ordered-is : (t : ℕ) → t < half → vectorAt ordered t ≡ scaled (getD cs (start + t) 1) (vectorAt (frame ++ work) (o + (half + t)))
+    ordered-is t l = ap (λ (xs : List ℕ). vectorAt xs t) ordered-same ∙ f .checked .ordered-are t l
+
+    -- so it is among what the variable nodes are given
+    pub at-ordered : OrderedGiven half ordered
+    at-ordered = record {
+      long = (let t = two in let c = g .report-long in let d = ap length (lent-tail (64 * half) report rA (f .report-long) (at-sizes .in-report)) ∙ length-drop (64 * half) report in omega arith);
+      most = λ t l. scaled-small (getD cs (start + t) 1) (vectorAt (frame ++ work) (o + (half + t))) (vectorAt ordered t) (ordered-is t l) (source-small (at-layer refl (λ i s. refl)) (half + t) (omega arith)) .most;
+    }
 
     -- the symbols among it
     pub at-symbols : FirstSymbols half w
@@ -206,7 +255,24 @@ module _ {L start cap o : ℕ} {cs map frame work word symbols report : List ℕ
           (word-symbols (L - 1) cap cs (take half map) (start + stride) stride (vectorsFrom (L - 1) next (frame ++ work1)) t (omega arith));
     }
 
-    module _ {work3 : List ℕ} {clipped : ℕ} (l3 : length work3 ≡ length work2) (v : VariableNodesWritten o half start cap cs w frame work2 work3 clipped) where
+    module _ {work3 : List ℕ} {count : ℕ} (l3 : length work3 ≡ length work2) (v : VariableNodesWritten o half cap w frame work2 ordered work3 count) where
+      -- what a node is before the clip, from the block's vectors as they came
+      less-is : (t : ℕ) → t < half → lessAt o w (frame ++ work2) ordered t
+          ≡ lessFrom (getD w t 0) (vectorAt (frame ++ work) (o + t)) (scaled (getD cs (start + t) 1) (vectorAt (frame ++ work) (o + (half + t))))
+      less-is t l = ap₂ (lessFrom (getD w t 0)) (kept2 (o + t) (omega arith)) (ordered-is t l)
+
+      -- the variable nodes, from the block's vectors as they came
+      variables-are : AreVariableNodes half o half start cap cs w (frame ++ work) (frame ++ work3)
+      variables-are t l = v .nodes t l ∙ ap (clipped cap) (less-is t l) ∙ llrs-from cap (getD cs (start + t) 1) (getD w t 0) _ _
+
+      -- and their count of clipped entries
+      counted : count ≡ clippedTo half o half start cap cs w (frame ++ work)
+      counted =
+          v .count-is
+          ∙ sum-ext half (λ t. exceeding cap (lessAt o w (frame ++ work2) ordered t))
+          (λ t. clippedEntries cap (getD cs (start + t) 1) (getD w t 0) (vectorAt (frame ++ work) (o + t)) (vectorAt (frame ++ work) (o + (half + t))))
+          (λ t l. ap (exceeding cap) (less-is t l) ∙ count-from cap (getD cs (start + t) 1) (getD w t 0) _ _)
+
       -- the second half, from variable nodes
       pub at-second : BlockGiven (L - 1) (start + stride + half / 2) cap next cs (tail half map) frame work3 (tail half w) (tail half (sA ++ drop half symbols))
           (tail (64 * half) (rA ++ drop (64 * half) report))
@@ -220,8 +286,8 @@ module _ {L start cap o : ℕ} {cs map frame work word symbols report : List ℕ
           (ap length (tail-drop half map) ∙ length-drop half map ∙ omega arith) (l3 ∙ f .work-long ∙ f .checked-long) (polar.at-second ne (g .block) wA (f .word-long))
           (ap length (lent-tail half symbols sA (f .symbols-long) (z .in-symbols)) ∙ length-drop half symbols ∙ omega arith)
           (ap length (lent-tail (64 * half) report rA (f .report-long) (z .in-report)) ∙ length-drop (64 * half) report ∙ omega arith)
-          (λ i l. subst BlockVector (sym (v .nodes i l))
-          (variable-vector cap (getD cs (start + i) 1) (getD w i 0) (vectorAt (frame ++ work2) (o + i)) (vectorAt (frame ++ work2) (o + (half + i))) (g .cap-small)))
+          (λ i l. subst BlockVector (sym (variables-are i l))
+          (variable-vector cap (getD cs (start + i) 1) (getD w i 0) (vectorAt (frame ++ work) (o + i)) (vectorAt (frame ++ work) (o + (half + i))) (g .cap-small)))
 
       -- and what is known after it
       pub record SecondHalf (work4 wB sB rB : List ℕ) (right : ℕ) : Type 0 where
@@ -234,7 +300,7 @@ module _ {L start cap o : ℕ} {cs map frame work word symbols report : List ℕ
         at-joins = polar.at-joins ne (g .block) wA (f .word-long) wB (s .word-long)
 
         -- the counts of the halves and of the nodes that join them add up within 32 bits
-        pub at-count : left + clipped + right ≤ 300000
+        pub at-count : left + count + right ≤ 300000
         at-count =
             let m = g .block .few-layers in
             let a = count-small (L - 1) left (omega arith) (f .decoded .decoded .few) in
@@ -243,34 +309,20 @@ module _ {L start cap o : ℕ} {cs map frame work word symbols report : List ℕ
             let d = at-sizes .few in
             omega arith
 
-        -- the variable nodes, from the block's vectors as they came
-        variables-are : AreVariableNodes half o half start cap cs w (frame ++ work) (frame ++ work3)
-        variables-are t l =
-            v .nodes t l
-            ∙ ap₂ (λ (x y : List ℕ). variableNode cap (getD cs (start + t) 1) (getD w t 0) x y) (kept2 (o + t) (omega arith)) (kept2 (o + (half + t)) (omega arith))
-
-        -- and their count of clipped entries
-        counted : clipped ≡ clippedTo half o half start cap cs w (frame ++ work)
-        counted =
-            v .count-is
-            ∙ sum-ext half (λ t. clippedEntries cap (getD cs (start + t) 1) (getD w t 0) (vectorAt (frame ++ work2) (o + t)) (vectorAt (frame ++ work2) (o + (half + t))))
-            (λ t. clippedEntries cap (getD cs (start + t) 1) (getD w t 0) (vectorAt (frame ++ work) (o + t)) (vectorAt (frame ++ work) (o + (half + t))))
-            (λ t l. ap₂ (λ (x y : List ℕ). clippedEntries cap (getD cs (start + t) 1) (getD w t 0) x y) (kept2 (o + t) (omega arith)) (kept2 (o + (half + t)) (omega arith)))
-
         -- the block is decoded
         pub at-done : {after : List ℕ} → length after ≡ length (put half w wB) → Joined half start cs (put half w wB) after
             → WorkDecoded L start cap o cs map frame work work4 after (put half (sA ++ drop half symbols) sB) (put (64 * half) (rA ++ drop (64 * half) report) rB)
-            (left + clipped + right)
+            (left + count + right)
         at-done {after} la j =
             let z = at-sizes in
             let t = two in
             record {
-              decoded = subst (λ (x : List ℕ). BlockDecoded L start stride cap cs map (vectorsFrom L o (frame ++ work)) after x (put (64 * half) (rA ++ drop (64 * half) report) rB) (left + clipped + right))
+              decoded = subst (λ (x : List ℕ). BlockDecoded L start stride cap cs map (vectorsFrom L o (frame ++ work)) after x (put (64 * half) (rA ++ drop (64 * half) report) rB) (left + count + right))
                   (sym (lent-both half symbols sA (f .symbols-long) (z .in-symbols) sB))
-                  (subst (λ (x : List ℕ). BlockDecoded L start stride cap cs map (vectorsFrom L o (frame ++ work)) after (sA ++ sB) x (left + clipped + right))
+                  (subst (λ (x : List ℕ). BlockDecoded L start stride cap cs map (vectorsFrom L o (frame ++ work)) after (sA ++ sB) x (left + count + right))
                   (sym (lent-both (64 * half) report rA (f .report-long) (z .in-report) rB))
                   (split (Step start stride cap o cs map (frame ++ work)) (step start stride cap o cs map (frame ++ work)) L half ne (g .block .halved)
-                  (frame ++ work1) (frame ++ work3) w wA wB after sA sB rA rB left clipped right
+                  (frame ++ work1) (frame ++ work3) w wA wB after sA sB rA rB left count right
                   (f .checked .nodes) (f .decoded .decoded) in-first variables-are counted (v .few)
                   (subst (λ (x : List ℕ). BlockDecoded (L - 1) (start + stride + half / 2) stride cap cs x (vectorsFrom (L - 1) next (frame ++ work3)) wB sB rB right)
                   (tail-drop half map) (s .decoded .decoded))

@@ -6,11 +6,10 @@ use native.Mathlib.Decide.{decLt}
 use native.Mathlib.Omega.{arith}
 use lib.ListN.{length, getD, length-append}
 use Rattle.vector.specs.Vector.{vectorAt, withVector, stored}
-use Rattle.vector.proofs.SliceLaws.{vector-long, with-long, with-there, with-other, with-append, entries-of, stored-there}
-use Rattle.polar.proofs.Numbers.{getD-any}
+use Rattle.vector.proofs.SliceLaws.{vector-long, with-long, with-there, with-other, with-append, entries-of, stored-there, stored-long, stored-is, stored-other}
 use Rattle.nodes.specs.Parts.{Small, lowBits}
 use Rattle.nodes.proofs.LowLaws.{low-same}
-use Rattle.decoder.specs.Parts.{Kept, KernelsGiven}
+use Rattle.decoder.specs.Parts.{Kept, LayerGiven, OrderedGiven}
 
 -- the vectors g 0, g 1, .., g (t − 1) stand after the block's, and what was before them is as it was
 pub record StoredNodes (at half : ℕ) (frame work : List ℕ) (g : ℕ → List ℕ) (after : List ℕ) (t : ℕ) : Type 0 where
@@ -23,33 +22,22 @@ pub record StoredNodes (at half : ℕ) (frame work : List ℕ) (g : ℕ → List
 pub layer-none : {at half : ℕ} {frame work : List ℕ} {g : ℕ → List ℕ} → StoredNodes at half frame work g work 0
 layer-none = record { few = omega arith; long = refl; kept = λ i l. refl; nodes = λ s l. absurd (omega arith) }
 
-module _ {at half start : ℕ} {cs frame work : List ℕ} (given : KernelsGiven at half start cs frame work) where
+module _ {at half : ℕ} {frame work : List ℕ} (given : LayerGiven at half frame work) where
   -- a vector of the block is one that a node can be given
-  source-small : (i : ℕ) → i < half + half → Small (vectorAt (frame ++ work) (at + i))
+  pub source-small : (i : ℕ) → i < half + half → Small (vectorAt (frame ++ work) (at + i))
   source-small i l = record {
     long = vector-long (frame ++ work) (at + i) (let k = given .long in simp length-append (omega arith));
     most = given .most i l;
   }
 
   module _ {g : ℕ → List ℕ} {after : List ℕ} {t : ℕ} (s : StoredNodes at half frame work g after t) where
-    -- so is one that has been loaded
-    loaded-small : (i : ℕ) → i < half + half → (v : List ℕ) → v ≡ vectorAt (frame ++ after) (at + i) → Small v
-    loaded-small i l v e = subst Small (sym (e ∙ s .kept (at + i) (omega arith))) (source-small i l)
+    -- what has been loaded is the block's vector as it came
+    pub loaded-is : (i : ℕ) → i < half + half → (v : List ℕ) → v ≡ vectorAt (frame ++ after) (at + i) → v ≡ vectorAt (frame ++ work) (at + i)
+    loaded-is i l v e = e ∙ s .kept (at + i) (omega arith)
 
-    -- all of its bits count
-    low-is : (i : ℕ) → i < half + half → (v : List ℕ) → v ≡ vectorAt (frame ++ after) (at + i) → lowBits v ≡ v
-    low-is i l v e = low-same v (loaded-small i l v e)
-
-    -- what a node makes of the vectors that were loaded for kernel t is what it makes of the block's
-    pub node-is : {A : Type 0} (N : ℕ → List ℕ → List ℕ → A) → t < half → (theta phi : List ℕ)
-        → theta ≡ vectorAt (frame ++ after) (at + t) → phi ≡ vectorAt (frame ++ after) (at + (half + t))
-        → N (getD cs (start + t) 0) (lowBits theta) (lowBits phi) ≡ N (getD cs (start + t) 1) (vectorAt (frame ++ work) (at + t)) (vectorAt (frame ++ work) (at + (half + t)))
-    node-is N l theta phi p q =
-        let a : getD cs (start + t) 0 ≡ getD cs (start + t) 1 = getD-any cs (start + t) 0 1 (let r = given .room in omega arith) in
-        let b : lowBits theta ≡ vectorAt (frame ++ work) (at + t) = low-is t (omega arith) theta p ∙ p ∙ s .kept (at + t) (omega arith) in
-        let c : lowBits phi ≡ vectorAt (frame ++ work) (at + (half + t)) = low-is (half + t) (omega arith) phi q ∙ q ∙ s .kept (at + (half + t)) (omega arith) in
-        ap (λ (h : ℕ). N h (lowBits theta) (lowBits phi)) a ∙ ap (λ (v : List ℕ). N (getD cs (start + t) 1) v (lowBits phi)) b
-        ∙ ap (λ (v : List ℕ). N (getD cs (start + t) 1) (vectorAt (frame ++ work) (at + t)) v) c
+    -- and all of its bits count
+    pub low-is : (i : ℕ) → i < half + half → (v : List ℕ) → v ≡ vectorAt (frame ++ after) (at + i) → lowBits v ≡ vectorAt (frame ++ work) (at + i)
+    low-is i l v e = ap lowBits (loaded-is i l v e) ∙ low-same (vectorAt (frame ++ work) (at + i)) (source-small i l)
 
     module _ (l : t < half) (v : List ℕ) (q : v ≡ g t) (e : length (g t) ≡ 64) where
       -- the number of the next vector in the work buffer
@@ -107,3 +95,35 @@ module _ {at half start : ℕ} {cs frame work : List ℕ} (given : KernelsGiven 
           go i k (no m) =
               let z : t ≡ i = omega arith in
               subst (λ (j : ℕ). vectorAt (frame ++ stored after there v) (at + (half + half) + j) ≡ g j) z (here ∙ q)
+
+-- the vectors g 0, g 1, .., g (t − 1) stand one after the other at the start of a slice with room for `half` of them
+pub record StoredFirst (half : ℕ) (before : List ℕ) (g : ℕ → List ℕ) (after : List ℕ) (t : ℕ) : Type 0 where
+  pub room : 64 * half ≤ length before
+  pub long : length after ≡ length before
+  pub vectors : (s : ℕ) → s < t → vectorAt after s ≡ g s
+
+-- none yet
+pub first-none : {half : ℕ} {before : List ℕ} {g : ℕ → List ℕ} → 64 * half ≤ length before → StoredFirst half before g before 0
+first-none l = record { room = l; long = refl; vectors = λ s k. absurd (omega arith) }
+
+-- one more
+pub first-more : {half t : ℕ} {before after next v : List ℕ} {g : ℕ → List ℕ} → StoredFirst half before g after t → t < half → v ≡ g t → length (g t) ≡ 64
+    → next ≡ stored after t v → StoredFirst half before g next (t + 1)
+first-more {half} {t} {before} {after} {next} {v} {g} h l q e w =
+    let room : 64 * (t + 1) ≤ length after = (let k = h .room in let m = h .long in omega arith) in
+    subst (λ (x : List ℕ). StoredFirst half before g x (t + 1)) (sym w) (record {
+      room = h .room;
+      long = stored-long after t room v ∙ h .long;
+      vectors = λ s k. go room s k (decLt s t);
+    })
+  where
+    go : 64 * (t + 1) ≤ length after → (s : ℕ) → s < t + 1 → Dec (s < t) → vectorAt (stored after t v) s ≡ g s
+    go room s k (yes m) = stored-other after t room v s (λ z. absurd (omega arith)) ∙ h .vectors s m
+    go room s k (no m) =
+        let z : t ≡ s = omega arith in
+        subst (λ (j : ℕ). vectorAt (stored after t v) j ≡ g j) z (stored-is after t room v (ap length q ∙ e) ∙ q)
+
+-- of a vector of φ's in the order of c that variable nodes are given all bits count
+pub low-first : {half : ℕ} {ordered : List ℕ} → OrderedGiven half ordered → (t : ℕ) → t < half → (v : List ℕ) → v ≡ vectorAt ordered t → lowBits v ≡ vectorAt ordered t
+low-first {half} {ordered} g t l v e =
+    ap lowBits e ∙ low-same (vectorAt ordered t) (record { long = vector-long ordered t (let k = g .long in omega arith); most = g .most t l })

@@ -8,7 +8,8 @@ use Rattle.polar.specs.Code.{kindOf, Coefficients}
 use Rattle.polar.specs.Tree.{leaves, treeOf}
 use Rattle.polar.specs.Halves.{coefsAt}
 use Rattle.polar.specs.Parts.{Block}
-use Rattle.scms.specs.Nodes.{checkNode, variableNode, clippedEntries}
+use Rattle.scms.specs.Nodes.{scaled, checkNode, clipped, exceeding, variableNode, clippedEntries}
+use Rattle.nodes.specs.Parts.{lessFrom}
 use Rattle.scms.specs.Decision.{decision}
 use Rattle.scms.specs.Halves.{Vectors, BlockAnswer, decodeTree, frameTree}
 
@@ -22,14 +23,26 @@ Kept count before after = (i : ℕ) → i < count → vectorAt after i ≡ vecto
 -- ---- the nodes of the kernels that join two halves of a block: kernel t has the block's places t and half + t, and coefficient start + t
 
 -- what they are given
-pub record KernelsGiven (at half start : ℕ) (cs frame work : List ℕ) : Type 0 where
+pub record LayerGiven (at half : ℕ) (frame work : List ℕ) : Type 0 where
   pub few : half ≤ 128
-  pub few-coefs : length cs ≤ 1024
-  pub room : start + half ≤ length cs
   pub whole : length frame ≡ 64 * (length frame / 64)
   pub in-work : length frame / 64 ≤ at + (half + half)
   pub long : 64 * (at + (half + half) + half) ≤ length frame + length work
   pub most : (i : ℕ) → i < half + half → AtMost 8191 (vectorAt (frame ++ work) (at + i))
+
+-- and with it the check nodes their coefficients
+pub record KernelsGiven (at half start : ℕ) (cs frame work : List ℕ) : Type 0 where
+  pub layer : LayerGiven at half frame work
+  pub few-coefs : length cs ≤ 1024
+  pub room : start + half ≤ length cs
+
+-- φ's vector of kernel t, in the order of c
+abbrev pub orderedAt : (at half start : ℕ) (cs source : List ℕ) (t : ℕ) → List ℕ
+orderedAt at half start cs source t = scaled (getD cs (start + t) 1) (vectorAt source (at + (half + t)))
+
+-- those of the first `count` kernels, made from one list, are the first vectors of another
+abbrev pub AreOrdered : (count at half start : ℕ) (cs source ordered : List ℕ) → Type 0
+AreOrdered count at half start cs source ordered = (t : ℕ) → t < count → vectorAt ordered t ≡ orderedAt at half start cs source t
 
 -- the check node of kernel t, made from the block's vectors
 abbrev pub checkAt : (at half start : ℕ) (cs source : List ℕ) (t : ℕ) → List ℕ
@@ -39,17 +52,34 @@ checkAt at half start cs source t = checkNode (getD cs (start + t) 1) (vectorAt 
 abbrev pub AreCheckNodes : (count at half start : ℕ) (cs source target : List ℕ) → Type 0
 AreCheckNodes count at half start cs source target = (t : ℕ) → t < count → vectorAt target (at + (half + half) + t) ≡ checkAt at half start cs source t
 
--- what `check_nodes` leaves, of the work buffer before and after it
-pub record CheckNodesWritten (at half start : ℕ) (cs frame work after : List ℕ) : Type 0 where
+-- what `check_nodes` leaves, of the work buffer before and after it and of the slice for φ's vectors
+pub record CheckNodesWritten (at half start : ℕ) (cs frame work after ordered : List ℕ) : Type 0 where
   pub kept : Kept (at + (half + half)) (frame ++ work) (frame ++ after)
   pub nodes : AreCheckNodes half at half start cs (frame ++ work) (frame ++ after)
+  pub ordered-are : AreOrdered half at half start cs (frame ++ work) ordered
 
 -- the symbols of the first half that variable nodes are given
 pub record FirstSymbols (half : ℕ) (word : List ℕ) : Type 0 where
   pub enough : half ≤ length word
   pub symbols : (t : ℕ) → t < half → getD word t 0 < 64
 
--- the variable node of kernel t
+-- φ's vectors in the order of c that they are given
+pub record OrderedGiven (half : ℕ) (ordered : List ℕ) : Type 0 where
+  pub long : 64 * half ≤ length ordered
+  pub most : (t : ℕ) → t < half → AtMost 8191 (vectorAt ordered t)
+
+-- the sums of the variable node of kernel t, less the least of them: what it is before the clip
+abbrev pub lessAt : (at : ℕ) (word source ordered : List ℕ) (t : ℕ) → List ℕ
+lessAt at word source ordered t = lessFrom (getD word t 0) (vectorAt source (at + t)) (vectorAt ordered t)
+
+-- what `variable_nodes` leaves: each node clipped, and the count of clipped entries
+pub record VariableNodesWritten (at half cap : ℕ) (word frame work ordered after : List ℕ) (count : ℕ) : Type 0 where
+  pub kept : Kept (at + (half + half)) (frame ++ work) (frame ++ after)
+  pub nodes : (t : ℕ) → t < half → vectorAt (frame ++ after) (at + (half + half) + t) ≡ clipped cap (lessAt at word (frame ++ work) ordered t)
+  pub count-is : count ≡ sumTo half (λ t. exceeding cap (lessAt at word (frame ++ work) ordered t))
+  pub few : count ≤ 64 * half
+
+-- the variable node of kernel t, with φ's vector as it came
 abbrev pub variableAt : (at half start cap : ℕ) (cs word source : List ℕ) (t : ℕ) → List ℕ
 variableAt at half start cap cs word source t =
     variableNode cap (getD cs (start + t) 1) (getD word t 0) (vectorAt source (at + t)) (vectorAt source (at + (half + t)))
@@ -63,13 +93,6 @@ AreVariableNodes count at half start cap cs word source target =
 abbrev pub clippedTo : (count at half start cap : ℕ) (cs word source : List ℕ) → ℕ
 clippedTo count at half start cap cs word source =
     sumTo count (λ t. clippedEntries cap (getD cs (start + t) 1) (getD word t 0) (vectorAt source (at + t)) (vectorAt source (at + (half + t))))
-
--- what `variable_nodes` leaves
-pub record VariableNodesWritten (at half start cap : ℕ) (cs word frame work after : List ℕ) (count : ℕ) : Type 0 where
-  pub kept : Kept (at + (half + half)) (frame ++ work) (frame ++ after)
-  pub nodes : AreVariableNodes half at half start cap cs word (frame ++ work) (frame ++ after)
-  pub count-is : count ≡ clippedTo half at half start cap cs word (frame ++ work)
-  pub few : count ≤ 64 * half
 
 -- ---- one place, whose vector is number `at`
 

@@ -27,7 +27,8 @@ fn decode_place(
     vector::store(&v, 0, report);
 }
 
-// A block: writes its symbols, their transform (the word) and its report, and returns the count of clipped entries of its variable nodes.
+// A block: writes its symbols, their transform (the word) and its report, and returns the count of clipped entries of its variable nodes. While its first
+// half is decoded the second half of its report holds phi's vectors in the order of c, from the check nodes to the variable nodes.
 // The kernels that join its halves have their coefficients from start on, those of the next layer come N/2 further on.
 pub(crate) fn decode_block(
     layers: usize,
@@ -57,7 +58,7 @@ pub(crate) fn decode_block(
     let second_start = first_start + half / 2;
     let next = at + (half + half);
     let cut = 64 * half;
-    check_nodes(at, half, start, coefs, frame, work);
+    check_nodes(at, half, start, coefs, frame, work, &mut report[cut..]);
     let left = decode_block(
         layers - 1,
         first_start,
@@ -71,7 +72,7 @@ pub(crate) fn decode_block(
         &mut symbols[..half],
         &mut report[..cut],
     );
-    let clipped = variable_nodes(at, half, start, coefs, cap, word, frame, work);
+    let clipped = variable_nodes(at, half, cap, word, frame, work, &report[cut..]);
     let right = decode_block(
         layers - 1,
         second_start,

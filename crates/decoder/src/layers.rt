@@ -6,7 +6,7 @@ ghost use mathlib.Core.List.{_++_};
 ghost use Prim.Native.Nat.{_+_, _*_, _/_, _≤_};
 ghost use lib.ListN.{length};
 ghost use Rattle.vector.specs.Vector.{vectorAt};
-ghost use Rattle.decoder.specs.Parts.{KernelsGiven, CheckNodesWritten, FirstSymbols, VariableNodesWritten};
+ghost use Rattle.decoder.specs.Parts.{LayerGiven, KernelsGiven, CheckNodesWritten, FirstSymbols, OrderedGiven, VariableNodesWritten};
 
 // Vector i of a slice that has it.
 fn vector_of(s: &[u16], i: usize) -> [u16; 64]
@@ -35,7 +35,7 @@ pub(crate) fn load_vector(frame: &[u16], work: &[u16], i: usize) -> [u16; 64]
     vector_of(work, i - count)
 }
 
-// The check nodes of a block's kernels.
+// The check nodes of a block's kernels. Phi's vectors are put in the order of c for them, and kept so in `ordered` for the variable nodes.
 pub(crate) fn check_nodes(
     at: usize,
     half: usize,
@@ -43,42 +43,45 @@ pub(crate) fn check_nodes(
     coefs: &[u8],
     frame: &[u16],
     work: &mut [u16],
+    ordered: &mut [u16],
 )
-    requires { ⌜ KernelsGiven at half start (now coefs) (now frame) (now work) ⌝ }
-    ensures { λ _. ⌜ CheckNodesWritten at half start (now (coefs .entry)) (now (frame .entry)) (now (work .entry)) (now (work .exit)) ⌝ }
+    requires { ⌜ KernelsGiven at half start (now coefs) (now frame) (now work) × (64 * half ≤ length (now ordered)) ⌝ }
+    ensures { λ _. ⌜ CheckNodesWritten at half start (now (coefs .entry)) (now (frame .entry)) (now (work .entry)) (now (work .exit)) (now (ordered .exit)) ⌝ }
 {
     let to = at + (half + half) - frame.len() / 64;
     let mut t: usize = 0;
     while t < half {
         let theta = load_vector(frame, work, at + t);
         let phi = load_vector(frame, work, at + (half + t));
-        let r = nodes::check_node(&theta, &phi, coefs[start + t]);
+        let x = nodes::scaled(&phi, coefs[start + t]);
+        vector::store(&x, t, ordered);
+        let r = nodes::check_node(&theta, &x);
         vector::store(&r, to + t, work);
         t += 1;
     }
 }
 
-// The variable nodes of a block's kernels, with the symbols decided in its first half; returns the count of their clipped entries.
+// The variable nodes of a block's kernels, with the symbols decided in its first half and phi's vectors in the order of c; returns the count of their
+// clipped entries.
 pub(crate) fn variable_nodes(
     at: usize,
     half: usize,
-    start: usize,
-    coefs: &[u8],
     cap: u16,
     word: &[u8],
     frame: &[u16],
     work: &mut [u16],
+    ordered: &[u16],
 ) -> u32
-    requires { ⌜ KernelsGiven at half start (now coefs) (now frame) (now work) × FirstSymbols half (now word) ⌝ }
-    ensures { λ r. ⌜ VariableNodesWritten at half start cap (now (coefs .entry)) (now (word .entry)) (now (frame .entry)) (now (work .entry)) (now (work .exit)) r ⌝ }
+    requires { ⌜ LayerGiven at half (now frame) (now work) × FirstSymbols half (now word) × OrderedGiven half (now ordered) ⌝ }
+    ensures { λ r. ⌜ VariableNodesWritten at half cap (now (word .entry)) (now (frame .entry)) (now (work .entry)) (now (ordered .entry)) (now (work .exit)) r ⌝ }
 {
     let to = at + (half + half) - frame.len() / 64;
     let mut count: u32 = 0;
     let mut t: usize = 0;
     while t < half {
         let theta = load_vector(frame, work, at + t);
-        let phi = load_vector(frame, work, at + (half + t));
-        let r = nodes::variable_node(&theta, &phi, coefs[start + t], word[t], cap);
+        let x = vector_of(ordered, t);
+        let r = nodes::variable_node(&theta, &x, word[t], cap);
         let llrs = r.llrs;
         vector::store(&llrs, to + t, work);
         count += r.count;

@@ -1,6 +1,6 @@
--- The laws of the products of one symbol with all 64: each is a sum of those with 1, a, .., a^5; and of the order by columns.
+-- The laws of the products of one symbol with all 64: each is a sum of those with 1, a, .., a^5.
 use mathlib.Core.Path.{_≡_, refl, sym, ap, _∙_}
-use mathlib.Core.Bool.{Bool, true, false, cond, _&&_}
+use mathlib.Core.Bool.{Bool, true, false, cond}
 use Prim.Native.Nat.{ℕ, _/_, _%_, _<_}
 use native.Mathlib.Omega.{arith}
 use lib.Dec.{T, eqb, eqb→eq, lit<}
@@ -8,21 +8,9 @@ use lib.ListN.{getD}
 use Rattle.vector.specs.Vector.{tabulate}
 use Rattle.vector.proofs.Laws.{getD-tabulate, tabulate-ext}
 use Rattle.gf64.specs.Field.{_⊕_, _⊙_, timesA, lowSix}
-use Rattle.gf64.specs.Multiples.{byColumns, part, combined}
+use Rattle.gf64.specs.Multiples.{part, combined}
 use Rattle.gf64.proofs.ProductLaws.{product-one, product-sum, product-zero, product-a}
-use Rattle.gf64.proofs.Table.{and-left, and-right, all, all-at}
-
--- ---- the order by columns
-
--- a symbol's place is below 64
-pub columns-lt : (k : ℕ) → k < 64 → byColumns k < 64
-unfolding byColumns
-columns-lt k h = omega arith
-
--- the exchange undoes itself
-pub columns-twice : (k : ℕ) → k < 64 → byColumns (byColumns k) ≡ k
-unfolding byColumns
-columns-twice k h = omega arith
+use Rattle.gf64.proofs.Table.{all, all-at}
 
 -- ---- sums of six
 
@@ -41,24 +29,19 @@ product-combined : (h s0 s1 s2 s3 s4 s5 c : ℕ)
 unfolding combined
 product-combined h s0 s1 s2 s3 s4 s5 c = simp (product-sum, product-part)
 
--- the test of one c: it is the sum of its bits, and with the bits exchanged that of the exchanged ones
+-- the test of one c: it is the sum of its bits
 bitsOk : ℕ → Bool
-bitsOk c = eqb (combined 1 2 4 8 16 32 c) c && eqb (combined 8 16 32 1 2 4 c) (byColumns c)
+bitsOk c = eqb (combined 1 2 4 8 16 32 c) c
 
 -- the check over the 64 symbols
 bits : T (all bitsOk 64)
-unfolding all bitsOk combined part byColumns _⊕_
+unfolding all bitsOk combined part _⊕_
 bits = tt
 
 -- a symbol is the sum of its bits
 bits-sum : (c : ℕ) → c < 64 → combined 1 2 4 8 16 32 c ≡ c
 unfolding bitsOk
-bits-sum c l = eqb→eq _ _ (and-left (eqb (combined 1 2 4 8 16 32 c) c) (eqb (combined 8 16 32 1 2 4 c) (byColumns c)) (all-at bitsOk 64 bits c l))
-
--- and with its bits exchanged that of the exchanged ones
-columns-sum : (c : ℕ) → c < 64 → combined 8 16 32 1 2 4 c ≡ byColumns c
-unfolding bitsOk
-columns-sum c l = eqb→eq _ _ (and-right (eqb (combined 1 2 4 8 16 32 c) c) (eqb (combined 8 16 32 1 2 4 c) (byColumns c)) (all-at bitsOk 64 bits c l))
+bits-sum c l = eqb→eq _ _ (all-at bitsOk 64 bits c l)
 
 -- ---- the products with 1, a, .., a^5, each a times the one before
 
@@ -104,23 +87,6 @@ module _ (h b d e f g : ℕ) (to-b : b ≡ timesA (h % 64)) (to-d : d ≡ timesA
       sums : (c : ℕ) → combined (h % 64) b d e f g c ≡ h ⊙ combined 1 2 4 8 16 32 c
       sums c = cc (product-combined h 1 2 4 8 16 32 c, at-1, at-2, at-4, at-8, at-16, at-32)
 
-  -- and in the order by columns
-  pub all-columns : tabulate 64 (combined e f g (h % 64) b d) ≡ tabulate 64 (λ k. h ⊙ byColumns k)
-  all-columns = tabulate-ext 64 _ _ (λ k l. sums k ∙ ap (λ (u : ℕ). h ⊙ u) (columns-sum k l))
-    where
-      sums : (k : ℕ) → combined e f g (h % 64) b d k ≡ h ⊙ combined 8 16 32 1 2 4 k
-      sums k = cc (product-combined h 8 16 32 1 2 4 k, at-1, at-2, at-4, at-8, at-16, at-32)
-
--- ---- the entries of the two arrays
-module _ (h : ℕ) where
-  -- entry c of the first is the product with c
-  pub multiples-at : (c : ℕ) → c < 64 → getD (tabulate 64 (λ j. h ⊙ j)) c 0 ≡ h ⊙ c
-  multiples-at c l = getD-tabulate 0 64 (λ j. h ⊙ j) c l
-
-  -- entry k of the second that with the symbol at place k
-  pub columns-at : (k : ℕ) → k < 64 → getD (tabulate 64 (λ j. h ⊙ byColumns j)) k 0 ≡ h ⊙ byColumns k
-  columns-at k l = getD-tabulate 0 64 (λ j. h ⊙ byColumns j) k l
-
-  -- so the product with c is at the place of c
-  pub columns-of : (c : ℕ) → c < 64 → getD (tabulate 64 (λ j. h ⊙ byColumns j)) (byColumns c) 0 ≡ h ⊙ c
-  columns-of c l = columns-at (byColumns c) (columns-lt c l) ∙ ap (λ (u : ℕ). h ⊙ u) (columns-twice c l)
+-- entry c of the products of h is the product with c
+pub multiples-at : (h c : ℕ) → c < 64 → getD (tabulate 64 (λ j. h ⊙ j)) c 0 ≡ h ⊙ c
+multiples-at h c l = getD-tabulate 0 64 (λ j. h ⊙ j) c l

@@ -1,12 +1,8 @@
--- The products of one symbol with all 64: the sums that give them, and a second order.
-use Prim.Native.Nat.{ℕ, _+_, _*_, _/_, _%_}
+-- The sums that give the products of one symbol with all 64.
+use Prim.Native.Nat.{ℕ, _/_, _%_}
 use mathlib.Core.Bool.{cond}
 use lib.Dec.{eqb}
 use Rattle.gf64.specs.Field.{_⊕_}
-
--- the symbol at place k of the second order: k's three low bits and its three high bits exchanged
-unfoldable pub byColumns : ℕ → ℕ
-byColumns k = 8 * (k % 8) + k / 8
 
 -- q where this bit (1, 2, 4, ..) is set in c, else 0
 unfoldable pub part : (c bit q : ℕ) → ℕ

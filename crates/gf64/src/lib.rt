@@ -7,7 +7,6 @@ ghost use Rattle.gf64.specs.Formula.{unreduced, reduced};
 mod products;
 
 pub use products::multiples;
-pub use products::multiples_by_columns;
 
 // The product of two polynomials, not reduced. The even and the odd powers are multiplied apart: so each sum of bits has room for its carry.
 fn unreduced(x: u8, y: u8) -> u16

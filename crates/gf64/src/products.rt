@@ -1,9 +1,9 @@
-// The products of one symbol with all 64, in two orders. Each is a sum of six products: those with 1, a, a^2, .., a^5.
+// The products of one symbol with all 64. Each is a sum of six products: those with 1, a, a^2, .., a^5.
 ghost use mathlib.Core.Path.{_≡_};
 ghost use Prim.Native.Nat.{_<_};
 ghost use Rattle.vector.specs.Vector.{tabulate};
 ghost use Rattle.gf64.specs.Field.{_⊙_, timesA};
-ghost use Rattle.gf64.specs.Multiples.{byColumns, part, combined};
+ghost use Rattle.gf64.specs.Multiples.{part, combined};
 
 // a times a symbol.
 fn times_a(x: u8) -> u8
@@ -47,17 +47,4 @@ pub fn multiples(h: u8) -> [u8; 64]
     let f = times_a(e);
     let g = times_a(f);
     combinations(a, b, d, e, f, g)
-}
-
-// The same with a symbol's three low bits and its three high bits exchanged: entry k is the product of h with 8 (k mod 8) + k div 8.
-pub fn multiples_by_columns(h: u8) -> [u8; 64]
-    ensures { λ r. ⌜ r ≡ tabulate 64 (λ k. h ⊙ byColumns k) ⌝ }
-{
-    let a = h % 64;
-    let b = times_a(a);
-    let d = times_a(b);
-    let e = times_a(d);
-    let f = times_a(e);
-    let g = times_a(f);
-    combinations(e, f, g, a, b, d)
 }

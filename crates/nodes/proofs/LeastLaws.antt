@@ -2,24 +2,21 @@
 use mathlib.Core.Path.{_≡_, refl, sym, ap, _∙_, subst}
 use mathlib.Core.Bool.{Bool, _&&_}
 use mathlib.Core.List.{List}
-use Prim.Native.Nat.{ℕ, _+_, _-_, _*_, _/_, _%_, _≤_, _<_}
+use Prim.Native.Nat.{ℕ, zero, suc, _+_, _-_, _*_, _/_, _%_, _≤_, _<_}
 use native.Mathlib.Nat.{le-of-suc-le-suc}
 use native.Mathlib.Omega.{arith}
 use lib.Dec.{T, ltb, eqb, ltb→lt, eqb→eq}
 use lib.ListN.{length, getD}
 use Rattle.vector.specs.Vector.{tabulate, leastTo}
 use Rattle.vector.proofs.Laws.{length-tabulate, getD-tabulate, tabulate-ext, least-to-le, least-to-at}
-use Rattle.gf64.specs.Field.{_⊕_, _⊙_}
-use Rattle.gf64.specs.Multiples.{byColumns}
+use Rattle.gf64.specs.Field.{_⊕_}
 use Rattle.gf64.proofs.SumLaws.{sum-lt, sum-zero}
-use Rattle.gf64.proofs.ProductLaws.{product-lt}
 use Rattle.gf64.proofs.Table.{and-left, and-right, all, all-at}
-use Rattle.gf64.proofs.MultipleLaws.{columns-lt, columns-twice}
-use Rattle.scms.specs.Nodes.{scaled, sumAt, checkNode}
-use Rattle.nodes.specs.Parts.{Small}
-use Rattle.nodes.specs.Steps.{columns, raised, sourceOf, stepsAt, leastSum, Held, AreCopies, StepsGiven}
+use Rattle.scms.specs.Nodes.{sumAt}
+use Rattle.nodes.specs.Parts.{Small, checkFrom}
+use Rattle.nodes.specs.Steps.{byColumns, raised, sourceOf, firstOf, fourSteps, stepsAt, penaltyBefore, columnTo, leastSum, Held, AreCopies, StepsGiven}
 use Rattle.nodes.proofs.CopyLaws.{copies-at}
-use Rattle.nodes.proofs.StepLaws.{step-least}
+use Rattle.nodes.proofs.StepLaws.{step-held, step-least}
 
 -- where the copies are read for value b at step 4 q + j
 abbrev source : (q j b : ℕ) → ℕ
@@ -76,9 +73,8 @@ copied-at theta h n l =
     copies-at h n l ∙ raised-at theta ((n % 64) ⊕ (n / 64)) (sum-lt (n % 64) (n / 64) (omega arith) (omega arith))
 
 -- steps are given raised copies of a vector of penalties
-pub given : {x w : List ℕ} (theta : List ℕ) (q : ℕ) → AreCopies 8 (raised theta) w → Small theta → Small x → q < 16 → StepsGiven w x q
-given {x} {w} theta q h st sx l = record {
-  few = l;
+pub given : {x w : List ℕ} (theta : List ℕ) → AreCopies 8 (raised theta) w → Small theta → Small x → StepsGiven w x
+given {x} {w} theta h st sx = record {
   long = h .long;
   raised = λ n s.
       let e = copied-at theta h n s in
@@ -87,38 +83,71 @@ given {x} {w} theta q h st sx l = record {
   small = λ p s. sx .most p s;
 }
 
+-- what steps leave, plus the last penalty, is within the same bounds
+pub steps-held : {x w : List ℕ} (q y b held : ℕ) → StepsGiven w x → q < 16 → b < 64 → Held (held + y) → Held (stepsAt w x q y b held + getD x (firstOf q + 24) 0)
+unfolding stepsAt fourSteps
+steps-held {x} {w} q y b held g lq lb h =
+    let r : (j : ℕ) → j < 4 → _ = λ j l. g .raised (source q j b) (source-at q j b lq l lb .within) in
+    let s0 = step-held held y _ _ h (g .small (firstOf q) (omega arith)) (r 0 (omega arith)) refl in
+    let s1 = step-held _ _ _ _ s0 (g .small (firstOf q + 8) (omega arith)) (r 1 (omega arith)) refl in
+    let s2 = step-held _ _ _ _ s1 (g .small (firstOf q + 16) (omega arith)) (r 2 (omega arith)) refl in
+    step-held _ _ _ _ s2 (g .small (firstOf q + 24) (omega arith)) (r 3 (omega arith)) refl
+
 -- a least sum is at most 16,382
 pub least-held : (theta x : List ℕ) (b p : ℕ) → Small theta → Small x → b < 64 → Held (leastSum theta x b p + 8191)
 unfolding byColumns
 least-held theta x b p st sx l =
-    let m = least-to-le p (λ k. getD theta (b ⊕ byColumns k) 0 + getD x k 0) 0 (omega arith) in
+    let m = least-to-le p (λ k. sumAt theta x b (byColumns k)) 0 (omega arith) in
     let t = st .most (b ⊕ byColumns 0) (sum-lt b 0 l (omega arith)) in
     let s = sx .most 0 (omega arith) in
     record { least = omega arith; most = omega arith }
 
-module _ {x w : List ℕ} (theta : List ℕ) (q b : ℕ) (h : AreCopies 8 (raised theta) w) (sx : Small x) (lq : q < 16) (lb : b < 64) where
-  -- what value b is compared with at step 4 q + j
-  compared : (j : ℕ) → j < 4 → getD w (source q j b) 0 ≡ getD theta (b ⊕ byColumns (4 * q + j)) 0 + 8191
-  compared j l =
-      let s = source-at q j b lq l lb in
-      copied-at theta h (source q j b) (s .within) ∙ ap (λ (k : ℕ). getD theta k 0 + 8191) (s .entry)
+-- the value of a step, from that of the first of its four
+value-of : (q j : ℕ) → j < 4 → byColumns (4 * q + j) ≡ firstOf q + 8 * j
+unfolding byColumns
+value-of q j l =
+    let d : (4 * q + j) / 8 ≡ q / 2 = omega arith in
+    omega arith
 
-  -- four steps: what is held, plus the last penalty, is the least sum so far, plus 8,191
-  pub four-least : (y held : ℕ) → held + y ≡ leastSum theta x b (4 * q - 1) + 8191
-      → stepsAt w x q y b held + getD x (4 * q + 3) 0 ≡ leastSum theta x b (4 * q + 3) + 8191
-  unfolding stepsAt
-  four-least y held e =
-      let g : ℕ → ℕ = λ k. getD theta (b ⊕ byColumns k) 0 + getD x k 0 in
-      let z : 4 * q + 0 ≡ 4 * q = omega arith in
-      let w0 = compared 0 (omega arith) ∙ ap (λ (k : ℕ). getD theta (b ⊕ byColumns k) 0 + 8191) z in
-      let w1 = compared 1 (omega arith) in
-      let w2 = compared 2 (omega arith) in
-      let w3 = compared 3 (omega arith) in
-      let back : (n m : ℕ) → n ≡ m → leastTo n g + 8191 ≡ leastTo m g + 8191 = λ n m s. ap (λ (k : ℕ). leastTo k g + 8191) s in
-      let s0 = step-least held y _ _ _ (4 * q) g e w0 refl (sx .most (4 * q) (omega arith)) in
-      let s1 = step-least _ _ _ _ _ (4 * q + 1) g (s0 ∙ back (4 * q) (4 * q + 1 - 1) (omega arith)) w1 refl (sx .most (4 * q + 1) (omega arith)) in
-      let s2 = step-least _ _ _ _ _ (4 * q + 2) g (s1 ∙ back (4 * q + 1) (4 * q + 2 - 1) (omega arith)) w2 refl (sx .most (4 * q + 2) (omega arith)) in
-      step-least _ _ _ _ _ (4 * q + 3) g (s2 ∙ back (4 * q + 2) (4 * q + 3 - 1) (omega arith)) w3 refl (sx .most (4 * q + 3) (omega arith))
+module _ {x w : List ℕ} (theta : List ℕ) (b : ℕ) (h : AreCopies 8 (raised theta) w) (sx : Small x) (lb : b < 64) where
+  module _ (q : ℕ) (lq : q < 16) where
+    -- what value b is compared with at step 4 q + j
+    compared : (j n : ℕ) → j < 4 → n ≡ 4 * q + j → getD w (source q j b) 0 ≡ getD theta (b ⊕ byColumns n) 0 + 8191
+    compared j n l e =
+        let s = source-at q j b lq l lb in
+        copied-at theta h (source q j b) (s .within) ∙ ap (λ (k : ℕ). getD theta k 0 + 8191) (s .entry) ∙ ap (λ (k : ℕ). getD theta (b ⊕ byColumns k) 0 + 8191) (sym e)
+
+    -- the sum at that step, with its penalty
+    summed : (j n k : ℕ) → j < 4 → n ≡ 4 * q + j → k ≡ firstOf q + 8 * j → sumAt theta x b (byColumns n) ≡ getD theta (b ⊕ byColumns n) 0 + getD x k 0
+    summed j n k l e f = ap (λ (z : ℕ). getD theta (b ⊕ byColumns n) 0 + getD x z 0) (ap byColumns e ∙ value-of q j l ∙ sym f)
+
+    -- four steps: what is held, plus the last penalty, is the least sum so far, plus 8,191
+    four-least : (y held : ℕ) → held + y ≡ leastSum theta x b (4 * q - 1) + 8191
+        → stepsAt w x q y b held + getD x (firstOf q + 24) 0 ≡ leastSum theta x b (4 * q + 3) + 8191
+    unfolding stepsAt fourSteps
+    four-least y held e =
+        let g : ℕ → ℕ = λ k. sumAt theta x b (byColumns k) in
+        let back : (n m : ℕ) → n ≡ m → leastTo n g + 8191 ≡ leastTo m g + 8191 = λ n m s. ap (λ (k : ℕ). leastTo k g + 8191) s in
+        let s0 = step-least held y _ _ _ (4 * q) g e (compared 0 (4 * q) (omega arith) (omega arith)) (summed 0 (4 * q) (firstOf q) (omega arith) (omega arith) (omega arith)) (sx .most (firstOf q) (omega arith)) in
+        let s1 = step-least _ _ _ _ _ (4 * q + 1) g (s0 ∙ back (4 * q) (4 * q + 1 - 1) (omega arith)) (compared 1 (4 * q + 1) (omega arith) refl) (summed 1 (4 * q + 1) (firstOf q + 8) (omega arith) refl (omega arith)) (sx .most (firstOf q + 8) (omega arith)) in
+        let s2 = step-least _ _ _ _ _ (4 * q + 2) g (s1 ∙ back (4 * q + 1) (4 * q + 2 - 1) (omega arith)) (compared 2 (4 * q + 2) (omega arith) refl) (summed 2 (4 * q + 2) (firstOf q + 16) (omega arith) refl (omega arith)) (sx .most (firstOf q + 16) (omega arith)) in
+        step-least _ _ _ _ _ (4 * q + 3) g (s2 ∙ back (4 * q + 2) (4 * q + 3 - 1) (omega arith)) (compared 3 (4 * q + 3) (omega arith) refl) (summed 3 (4 * q + 3) (firstOf q + 24) (omega arith) refl (omega arith)) (sx .most (firstOf q + 24) (omega arith))
+
+  -- the steps of a column, the first 4 j of them
+  pub column-least : (column y held : ℕ) → column < 8 → held + y ≡ leastSum theta x b (8 * column - 1) + 8191
+      → (j : ℕ) → j ≤ 2 → columnTo w x column y j b held + penaltyBefore x column y j ≡ leastSum theta x b (8 * column + 4 * j - 1) + 8191
+  unfolding columnTo penaltyBefore
+  column-least column y held l e zero m =
+      let z : 8 * column - 1 ≡ 8 * column + 4 * 0 - 1 = omega arith in
+      e ∙ ap (λ (k : ℕ). leastSum theta x b k + 8191) z
+  column-least column y held l e (suc j) m =
+      let k : firstOf (2 * column + j) + 24 ≡ 32 * j + column + 24 = omega arith in
+      let z : 8 * column + 4 * j - 1 ≡ 4 * (2 * column + j) - 1 = omega arith in
+      let t : 4 * (2 * column + j) + 3 ≡ 8 * column + 4 * suc j - 1 = omega arith in
+      let before = column-least column y held l e j (omega arith) ∙ ap (λ (n : ℕ). leastSum theta x b n + 8191) z in
+      let made = four-least (2 * column + j) (omega arith) (penaltyBefore x column y j) (columnTo w x column y j b held) before in
+      ap (λ (n : ℕ). stepsAt w x (2 * column + j) (penaltyBefore x column y j) b (columnTo w x column y j b held) + getD x n 0) (sym k) ∙ made
+      ∙ ap (λ (n : ℕ). leastSum theta x b n + 8191) t
 
 -- what is held before the first step: the vector itself, raised
 pub first-held : (theta x : List ℕ) (b : ℕ) → b < 64 → getD (raised theta) b 0 + getD x 0 0 ≡ leastSum theta x b 0 + 8191
@@ -127,6 +156,16 @@ first-held theta x b l =
     let e = raised-at theta b l in
     let s = ap (λ (k : ℕ). getD theta k 0) (sum-zero b) in
     omega arith
+
+-- the value of a step is a symbol
+columns-lt : (k : ℕ) → k < 64 → byColumns k < 64
+unfolding byColumns
+columns-lt k h = omega arith
+
+-- the order by columns undoes itself
+columns-twice : (k : ℕ) → k < 64 → byColumns (byColumns k) ≡ k
+unfolding byColumns
+columns-twice k h = omega arith
 
 -- the least is the same in the order of columns
 turned : (f : ℕ → ℕ) → leastTo 63 (λ k. f (byColumns k)) ≡ leastTo 63 f
@@ -142,39 +181,7 @@ turned f =
     let s = q .2 in
     omega arith
 
--- an entry of phi's vector in the order of the steps
-columns-entry : (h : ℕ) (phi : List ℕ) (k : ℕ) → k < 64 → getD (columns h phi) k 0 ≡ getD phi (h ⊙ byColumns k) 0
-unfolding columns
-columns-entry h phi k l = getD-tabulate 0 64 (λ j. getD phi (h ⊙ byColumns j) 0) k l
-
--- its entries are no larger
-pub columns-small : {x : List ℕ} (h : ℕ) (phi : List ℕ) → x ≡ columns h phi → Small phi → Small x
-unfolding columns
-columns-small h phi e s = subst Small (sym e) (record {
-  long = length-tabulate 64 (λ k. getD phi (h ⊙ byColumns k) 0);
-  most = λ b l. rw getD-tabulate (s .most (h ⊙ byColumns b) (product-lt h (byColumns b)));
-})
-
--- the least of f 0, f 1, .., f k goes by these numbers
-least-ext : (k : ℕ) (f g : ℕ → ℕ) → ((i : ℕ) → i ≤ k → f i ≡ g i) → leastTo k f ≡ leastTo k g
-least-ext k f g h =
-    let p = least-to-at k f in
-    let q = least-to-at k g in
-    let a = least-to-le k g (p .0) (p .1) in
-    let b = least-to-le k f (q .0) (q .1) in
-    let c = h (p .0) (p .1) in
-    let d = h (q .0) (q .1) in
-    let e = p .2 in
-    let s = q .2 in
-    omega arith
-
 -- the least sums over all steps are the entries of the check node
-pub sums-are-node : (h : ℕ) (theta phi : List ℕ) → tabulate 64 (λ b. leastSum theta (columns h phi) b 63) ≡ checkNode h theta phi
-unfolding checkNode scaled
-sums-are-node h theta phi =
-    tabulate-ext 64 _ _ (λ b l.
-    least-ext 63 (λ k. getD theta (b ⊕ byColumns k) 0 + getD (columns h phi) k 0) (λ k. getD theta (b ⊕ byColumns k) 0 + getD phi (h ⊙ byColumns k) 0)
-    (λ k s. ap (λ (z : ℕ). getD theta (b ⊕ byColumns k) 0 + z) (columns-entry h phi k (omega arith)))
-    ∙ turned (λ c. getD theta (b ⊕ c) 0 + getD phi (h ⊙ c) 0)
-    ∙ least-ext 63 (λ c. getD theta (b ⊕ c) 0 + getD phi (h ⊙ c) 0) (sumAt theta (tabulate 64 (λ c. getD phi (h ⊙ c) 0)) b)
-    (λ c s. ap (λ (z : ℕ). getD theta (b ⊕ c) 0 + z) (sym (getD-tabulate 0 64 (λ j. getD phi (h ⊙ j) 0) c (omega arith)))))
+pub sums-are-node : (theta x : List ℕ) → tabulate 64 (λ b. leastSum theta x b 63) ≡ checkFrom theta x
+unfolding checkFrom
+sums-are-node theta x = tabulate-ext 64 _ _ (λ b l. turned (sumAt theta x b))

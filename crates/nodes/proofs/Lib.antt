@@ -1,4 +1,5 @@
 pub mod LowLaws
+pub mod NodeLaws
 pub mod CopyLaws
 pub mod StepLaws
 pub mod SignedLaws

@@ -8,5 +8,6 @@ mod steps;
 mod variable;
 
 pub use check::check_node;
+pub use gather::scaled;
 pub use variable::Clipped;
 pub use variable::variable_node;

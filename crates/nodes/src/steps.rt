@@ -4,9 +4,8 @@ use crate::copies::raised;
 ghost use mathlib.Core.Path.{_≡_};
 ghost use Prim.Native.Nat.{ℕ, _+_, _*_, _≤_, _<_};
 ghost use lib.ListN.{length, getD};
-ghost use Rattle.vector.specs.Vector.{tabulate};
-ghost use Rattle.nodes.specs.Parts.{Small};
-ghost use Rattle.nodes.specs.Steps.{step, fourSteps, sourceOf, stepsAt, Held, SourcesAre, Raised, FourSmall, StepsGiven, Mapped, lowered, leastSum};
+ghost use Rattle.nodes.specs.Parts.{Small, checkFrom};
+ghost use Rattle.nodes.specs.Steps.{step, fourSteps, stepsAt, columnTo, Held, Raised, FourSmall, StepsGiven, Mapped, lowered};
 
 // One step for one value: from what is held at the value before, with penalty y, to the value with penalty x, which gives w. The comparison is one of
 // signed numbers: the compiler then takes eight minima in one instruction.
@@ -44,55 +43,45 @@ fn four_steps(
     step(held2, x2, x3, w3)
 }
 
-// Where the copies have what the eight values of a block are compared with at step 4 q + j.
-fn source_of(q: usize, j: usize, block: usize) -> usize
-    requires { ⌜ (q < 16) × (j < 4) × (block < 8) ⌝ }
-    ensures { λ r. ⌜ (r ≡ sourceOf q j block) × (r ≤ 504) ⌝ }
-{
-    if block < 4 {
-        return 32 * q + 8 * (block ^ j);
-    }
-    32 * (q ^ 1) + 8 * ((block - 4) ^ j)
-}
-
-// Steps 4 q to 4 q + 3 for the eight values of a block. It is told where the copies are read, so that its caller's loop shows the compiler eight
-// neighbours at a time.
-fn block_steps(
+// Steps 4 q to 4 q + 3 for the 32 values of one half, in four blocks of eight. The four parts of a copy that they are compared with are the same for
+// each block, in another order: so each part is read once, and the compiler works on eight neighbours at a time.
+fn half_steps(
     held: [u16; 64],
     copies: &[u16; 512],
     x: &[u16; 64],
     q: usize,
     y: u16,
-    block: usize,
-    from0: usize,
-    from1: usize,
-    from2: usize,
-    from3: usize,
+    half: usize,
 ) -> [u16; 64]
-    requires { ⌜ StepsGiven (now copies) (now x) q × (block < 8) × (length held ≡ 64)
-        × ((i : ℕ) → i < 8 → Held (getD held (8 * block + i) 0 + y)) × SourcesAre q block from0 from1 from2 from3 ⌝ }
-    ensures { λ r. ⌜ Mapped (stepsAt (now (copies .entry)) (now (x .entry)) q y) (8 * block) (8 * block + 8) held r ⌝ }
+    requires { ⌜ StepsGiven (now copies) (now x) × (q < 16) × (half < 2) × (length held ≡ 64) × ((b : ℕ) → b < 64 → 32 * half ≤ b → Held (getD held b 0 + y)) ⌝ }
+    ensures { λ r. ⌜ Mapped (stepsAt (now (copies .entry)) (now (x .entry)) q y) (32 * half) (32 * half + 32) held r ⌝ }
 {
-    let to = 8 * block;
-    let x0 = x[4 * q];
-    let x1 = x[4 * q + 1];
-    let x2 = x[4 * q + 2];
-    let x3 = x[4 * q + 3];
+    let first = 32 * (q % 2) + q / 2;
+    let to = 32 * half;
+    let from = 32 * (q ^ half);
+    let x0 = x[first];
+    let x1 = x[first + 8];
+    let x2 = x[first + 16];
+    let x3 = x[first + 24];
     let mut r = held;
     let mut i: usize = 0;
     while i < 8 {
-        r[to + i] = four_steps(
-            r[to + i],
-            y,
-            x0,
-            x1,
-            x2,
-            x3,
-            copies[from0 + i],
-            copies[from1 + i],
-            copies[from2 + i],
-            copies[from3 + i],
-        );
+        let p0 = to + i;
+        let p1 = to + 8 + i;
+        let p2 = to + 16 + i;
+        let p3 = to + 24 + i;
+        let w0 = copies[from + i];
+        let w1 = copies[from + 8 + i];
+        let w2 = copies[from + 16 + i];
+        let w3 = copies[from + 24 + i];
+        let a0 = four_steps(r[p0], y, x0, x1, x2, x3, w0, w1, w2, w3);
+        let a1 = four_steps(r[p1], y, x0, x1, x2, x3, w1, w0, w3, w2);
+        let a2 = four_steps(r[p2], y, x0, x1, x2, x3, w2, w3, w0, w1);
+        let a3 = four_steps(r[p3], y, x0, x1, x2, x3, w3, w2, w1, w0);
+        r[p0] = a0;
+        r[p1] = a1;
+        r[p2] = a2;
+        r[p3] = a3;
         i += 1;
     }
     r
@@ -100,19 +89,38 @@ fn block_steps(
 
 // Steps 4 q to 4 q + 3 for all 64 values.
 fn all_steps(held: [u16; 64], copies: &[u16; 512], x: &[u16; 64], q: usize, y: u16) -> [u16; 64]
-    requires { ⌜ StepsGiven (now copies) (now x) q × (length held ≡ 64) × ((b : ℕ) → b < 64 → Held (getD held b 0 + y)) ⌝ }
+    requires { ⌜ StepsGiven (now copies) (now x) × (q < 16) × (length held ≡ 64) × ((b : ℕ) → b < 64 → Held (getD held b 0 + y)) ⌝ }
     ensures { λ r. ⌜ Mapped (stepsAt (now (copies .entry)) (now (x .entry)) q y) 0 64 held r ⌝ }
 {
     let mut r = held;
-    let mut block: usize = 0;
-    while block < 8 {
-        let from0 = source_of(q, 0, block);
-        let from1 = source_of(q, 1, block);
-        let from2 = source_of(q, 2, block);
-        let from3 = source_of(q, 3, block);
-        let next = block_steps(r, copies, x, q, y, block, from0, from1, from2, from3);
+    let mut half: usize = 0;
+    while half < 2 {
+        let next = half_steps(r, copies, x, q, y, half);
         r = next;
-        block += 1;
+        half += 1;
+    }
+    r
+}
+
+// The eight steps of a column for all 64 values. They are one turn of its caller's loop: then all but the column is constant.
+fn column_steps(
+    held: [u16; 64],
+    copies: &[u16; 512],
+    x: &[u16; 64],
+    column: usize,
+    y: u16,
+) -> [u16; 64]
+    requires { ⌜ StepsGiven (now copies) (now x) × (column < 8) × (length held ≡ 64) × ((b : ℕ) → b < 64 → Held (getD held b 0 + y)) ⌝ }
+    ensures { λ r. ⌜ Mapped (columnTo (now (copies .entry)) (now (x .entry)) column y 2) 0 64 held r ⌝ }
+{
+    let mut r = held;
+    let mut z = y;
+    let mut j: usize = 0;
+    while j < 2 {
+        let next = all_steps(r, copies, x, 2 * column + j, z);
+        r = next;
+        z = x[32 * j + column + 24];
+        j += 1;
     }
     r
 }
@@ -131,22 +139,22 @@ fn lowered(v: &[u16; 64], y: u16) -> [u16; 64]
     r
 }
 
-// For each value b the least, over all 64 steps, of theta's penalty at b plus the value of the step (the field's sum), plus x's at the step. Eight
-// values are worked on at a time, four steps for all of them before the next four.
+// For each value b the least, over all 64 values c, of theta's penalty at b plus c (the field's sum), plus x's at c. Eight values are worked on at a
+// time, four steps for all of them before the next four.
 pub(crate) fn least_sums(theta: &[u16; 64], x: &[u16; 64]) -> [u16; 64]
     requires { ⌜ Small (now theta) × Small (now x) ⌝ }
-    ensures { λ r. ⌜ r ≡ tabulate 64 (λ b. leastSum (now (theta .entry)) (now (x .entry)) b 63) ⌝ }
+    ensures { λ r. ⌜ r ≡ checkFrom (now (theta .entry)) (now (x .entry)) ⌝ }
 {
     let up = raised(theta);
     let copied = copies(up);
     let mut r = up;
     let mut y = x[0];
-    let mut q: usize = 0;
-    while q < 16 {
-        let next = all_steps(r, &copied, x, q, y);
+    let mut column: usize = 0;
+    while column < 8 {
+        let next = column_steps(r, &copied, x, column, y);
         r = next;
-        y = x[4 * q + 3];
-        q += 1;
+        y = x[column + 56];
+        column += 1;
     }
     lowered(&r, y)
 }

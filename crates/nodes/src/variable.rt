@@ -1,6 +1,5 @@
 // The variable node of a kernel: sums, eight at a time; these less the least; and clipped.
 use crate::copies::swapped;
-use crate::gather::gathered;
 use crate::low_bits::low_bits;
 ghost use mathlib.Core.Path.{_≡_};
 ghost use mathlib.Core.Bool.{cond};
@@ -8,17 +7,9 @@ ghost use Prim.Native.Nat.{_+_, _*_, _%_, _/_, _<_, _≤_, min};
 ghost use lib.Dec.{ltb};
 ghost use lib.ListN.{length, getD};
 ghost use Rattle.gf64.specs.Field.{_⊕_};
-ghost use Rattle.scms.specs.Nodes.{scaled, sums, clipped, exceeding};
-ghost use Rattle.nodes.specs.Parts.{lowBits, Small, IsVariableNode};
+ghost use Rattle.scms.specs.Nodes.{clipped, exceeding};
+ghost use Rattle.nodes.specs.Parts.{Small, sumsFrom, IsVariableNode};
 ghost use Rattle.nodes.specs.Steps.{swapped, Mapped};
-
-// Phi's vector in the order of c: its penalty at h times c, for each c. Made once for each node, so that each product is taken once.
-fn scaled(phi: &[u16; 64], h: u8) -> [u16; 64]
-    ensures { λ r. ⌜ r ≡ scaled h (lowBits (now (phi .entry))) ⌝ }
-{
-    let products = gf64::multiples(h);
-    gathered(phi, &products)
-}
 
 // A vector with its entries i and i + u mod 8 (the field's sum) exchanged: for each of u's three low bits that is set, neighbours at that distance.
 fn turned(v: [u16; 64], u: usize) -> [u16; 64]
@@ -45,19 +36,19 @@ fn block_sums(t: &[u16; 64], x: &[u16; 64], to: [u16; 64], block: usize, from: u
     r
 }
 
-// The sums of a variable node, theta's symbol being u: for each c, theta's penalty at u + c (the field's sum) plus phi's at h times c.
-fn sums(theta: &[u16; 64], phi: &[u16; 64], h: u8, u: u8) -> [u16; 64]
-    requires { ⌜ (u < 64) × Small (now theta) ⌝ }
-    ensures { λ r. ⌜ r ≡ sums h u (now (theta .entry)) (lowBits (now (phi .entry))) ⌝ }
+// The sums of a variable node, theta's symbol being u and x phi's vector in the order of c: for each c, theta's penalty at u + c (the field's sum) plus
+// x's at c.
+fn sums(theta: &[u16; 64], x: &[u16; 64], u: u8) -> [u16; 64]
+    requires { ⌜ (u < 64) × Small (now theta) × Small (now x) ⌝ }
+    ensures { λ r. ⌜ r ≡ sumsFrom u (now (theta .entry)) (now (x .entry)) ⌝ }
 {
-    let x = scaled(phi, h);
     let symbol = u as usize;
     let t = turned(*theta, symbol);
     let mut r = [0u16; 64];
     let mut block: usize = 0;
     while block < 8 {
         let from = 8 * (block ^ (symbol / 8));
-        let next = block_sums(&t, &x, r, block, from);
+        let next = block_sums(&t, x, r, block, from);
         r = next;
         block += 1;
     }
@@ -101,14 +92,15 @@ fn clip_llrs(cap: u16, v: &[u16; 64]) -> Clipped
     Clipped { llrs, count }
 }
 
-// A variable node, with the kernel's coefficient h and theta's symbol u: its sums, less the least of them, and only then clipped to
+// A variable node, from theta's vector, phi's in the order of c and theta's symbol u: its sums, less the least of them, and only then clipped to
 // the cap. The count of clipped entries is at most 64, so that a caller can add those of all nodes. Of each penalty the thirteen low bits count, of
 // u the six low ones.
-pub fn variable_node(theta: &[u16; 64], phi: &[u16; 64], h: u8, u: u8, cap: u16) -> Clipped
-    ensures { λ r. ⌜ IsVariableNode cap h u (now (theta .entry)) (now (phi .entry)) (r .llrs) (r .count) ⌝ }
+pub fn variable_node(theta: &[u16; 64], x: &[u16; 64], u: u8, cap: u16) -> Clipped
+    ensures { λ r. ⌜ IsVariableNode cap u (now (theta .entry)) (now (x .entry)) (r .llrs) (r .count) ⌝ }
 {
     let low_theta = low_bits(theta);
-    let all = sums(&low_theta, phi, h, u % 64);
+    let low_x = low_bits(x);
+    let all = sums(&low_theta, &low_x, u % 64);
     let low = vector::subtract_least(&all);
     clip_llrs(cap, &low)
 }

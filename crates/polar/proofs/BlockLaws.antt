@@ -35,6 +35,17 @@ put-append h xs ys =
     ap (λ (l : List ℕ). take h xs ++ l)
     (ap (λ (l : List ℕ). ys ++ l) (drop-of-length-le (drop h xs) (le-of-eq (length-drop h xs))) ∙ append-nil ys)
 
+-- the part has come back: from place h on the whole is that
+pub put-drop : (h : ℕ) (xs ys : List ℕ) → h ≤ length xs → drop h (put h xs ys) ≡ ys
+put-drop h xs ys l = ap (drop h) (put-append h xs ys) ∙ drop-at (take h xs) ys h (length-take-le h xs l)
+
+-- and it keeps its length
+pub put-long : (h : ℕ) (xs ys : List ℕ) → h ≤ length xs → length ys ≡ length (tail h xs) → length (put h xs ys) ≡ length xs
+put-long h xs ys l e =
+    let d = e ∙ ap length (tail-drop h xs) ∙ length-drop h xs in
+    let t = length-take-le h xs l in
+    ap length (put-append h xs ys) ∙ length-append (take h xs) ys ∙ omega arith
+
 module _ (h : ℕ) (word a : List ℕ) (la : length a ≡ length (take h word)) (l : h ≤ length word) where
   -- the first half is as long as the place where the second begins
   pub front-long : length a ≡ h

@@ -1,14 +1,16 @@
 -- `decode_block` meets its contract: the halves are decoded one after the other, one layer less each, from the nodes of the kernels that join
 -- them (BlockLaws).
 use mathlib.Core.Path.{_≡_, refl, sym, _∙_}
-use Prim.Native.Nat.{ℕ, _+_, _-_, _*_, _/_, _<_}
+use Prim.Native.Nat.{ℕ, _+_, _-_, _*_, _/_, _≤_, _<_}
 use native.Mathlib.Omega.{arith}
 use borrow.Author.Needs.{needs}
 use borrow.Fn.Kinds.{In}
 use borrow.Fn.PlainCycle.{Measures, is, falls, and}
-use lib.ListN.{length}
+use lib.ListN.{length, drop}
 use lib.Seq.{length-take-le}
+use mathlib.Core.List.{List, _++_}
 use Rattle.polar.proofs.BlockLaws as polar
+use Rattle.decoder.specs.Parts.{BlockGiven}
 use Rattle.decoder.proofs.BlockLaws as laws
 use Rattle.decoder.proofs.block.decode_block.Reads as block-reads
 use Rattle.decoder.proofs.block.decode_block.Kinds as block-kinds
@@ -50,13 +52,13 @@ abbrev entry : (t : ℕ) → lts.Else1 (calls t) (given t) block-reads.Post → 
 entry t c = c .before .before .before .before .before .before .before .before
 
 abbrev to-else : (t : ℕ) → lts.After-check-nodes (calls t) (given t) block-reads.Post → lts.Else1 (calls t) (given t) block-reads.Post
-to-else t c = c .before .before
+to-else t c = c .before .before .before
 
 abbrev to-checked : (t : ℕ) → lts.After-decode-block (calls t) (given t) block-reads.Post → lts.After-check-nodes (calls t) (given t) block-reads.Post
-to-checked t c = c .before .before .before .before .before .before .before .before
+to-checked t c = c .before .before .before .before .before .before .before .before .before .before
 
 abbrev to-first : (t : ℕ) → lts.After-variable-nodes (calls t) (given t) block-reads.Post → lts.After-decode-block (calls t) (given t) block-reads.Post
-to-first t c = c .before .before .before .before .before .before .before .before .before .before .before
+to-first t c = c .before .before .before .before .before .before .before .before .before .before .before .before .before
 
 abbrev to-variable : (t : ℕ) → lts.After-decode-block2 (calls t) (given t) block-reads.Post → lts.After-variable-nodes (calls t) (given t) block-reads.Post
 to-variable t c = c .before .before .before .before .before .before .before .before
@@ -76,13 +78,39 @@ layer t c = c .if1 .left
 sizes : (t : ℕ) (c : lts.Else1 (calls t) (given t) block-reads.Post) → laws.Sizes (layer t c) (entry t c .pre .1)
 sizes t c = laws.at-sizes (layer t c) (entry t c .pre .1)
 
+-- the number of entries of the report's first half, and what the check nodes left in its second half
+abbrev cut : (t : ℕ) → lts.After-check-nodes (calls t) (given t) block-reads.Post → ℕ
+cut t c = 64 * (length (entry t (to-else t c) .args .map .now) / 2)
+
+abbrev left : (t : ℕ) → lts.After-check-nodes (calls t) (given t) block-reads.Post → List ℕ
+left t c = c .check-nodes .last .1 .1 .1 .1 .1 .1 .0
+
+-- the report with it
+abbrev noted : (t : ℕ) → lts.After-check-nodes (calls t) (given t) block-reads.Post → List ℕ
+noted t c = polar.put (cut t c) (entry t (to-else t c) .args .report .now) (left t c)
+
+-- it has the length that it had
+noted-long : (t : ℕ) (c : lts.After-check-nodes (calls t) (given t) block-reads.Post) → length (noted t c) ≡ length (entry t (to-else t c) .args .report .now)
+noted-long t c = polar.put-long (cut t c) (entry t (to-else t c) .args .report .now) (left t c) (sizes t (to-else t c) .in-report) (c .check-nodes .kept .1 .1 .1 .1 .1 .1 .0)
+
+-- so the block is given what it was
+again : (t : ℕ) (c : lts.After-check-nodes (calls t) (given t) block-reads.Post)
+    → BlockGiven (entry t (to-else t c) .args .layers) (entry t (to-else t c) .args .start) (entry t (to-else t c) .args .cap) (entry t (to-else t c) .args .at) (entry t (to-else t c) .args .coefs .now) (entry t (to-else t c) .args .map .now)
+    (entry t (to-else t c) .args .frame .now) (entry t (to-else t c) .args .work .now) (entry t (to-else t c) .args .word .now) (entry t (to-else t c) .args .symbols .now) (noted t c)
+again t c = laws.at-report (layer t (to-else t c)) (entry t (to-else t c) .pre .1) (noted-long t c)
+
+-- and its report has room for that of a half
+noted-room : (t : ℕ) (c : lts.After-check-nodes (calls t) (given t) block-reads.Post) → cut t c ≤ length (noted t c)
+noted-room t c = laws.at-sizes (layer t (to-else t c)) (again t c) .in-report
+
 -- what is known after the first half
 first-half : (t : ℕ) (c : lts.After-decode-block (calls t) (given t) block-reads.Post)
-    → laws.FirstHalf (layer t (to-else t (to-checked t c))) (entry t (to-else t (to-checked t c)) .pre .1) (to-checked t c .check-nodes .last .1 .1 .1 .1 .1 .0)
+    → laws.FirstHalf (layer t (to-else t (to-checked t c))) (again t (to-checked t c)) (to-checked t c .check-nodes .last .1 .1 .1 .1 .1 .0) (left t (to-checked t c))
     (c .decode-block .last .1 .1 .1 .1 .1 .1 .1 .0) (c .decode-block .last .1 .1 .1 .1 .1 .1 .1 .1 .0) (c .decode-block .last .1 .1 .1 .1 .1 .1 .1 .1 .1 .0) (c .decode-block .last .1 .1 .1 .1 .1 .1 .1 .1 .1 .1 .0) (c .decode-block .result)
 first-half t c = record {
   checked-long = to-checked t c .check-nodes .kept .1 .1 .1 .1 .1 .0;
   checked = to-checked t c .check-nodes .ensures;
+  in-report = polar.put-drop (cut t (to-checked t c)) (entry t (to-else t (to-checked t c)) .args .report .now) (left t (to-checked t c)) (sizes t (to-else t (to-checked t c)) .in-report);
   work-long = c .decode-block .kept .1 .1 .1 .1 .1 .1 .1 .0;
   word-long = c .decode-block .kept .1 .1 .1 .1 .1 .1 .1 .1 .0;
   symbols-long = c .decode-block .kept .1 .1 .1 .1 .1 .1 .1 .1 .1 .0;
@@ -91,12 +119,12 @@ first-half t c = record {
 }
 
 -- the work buffer keeps its length at the variable nodes
-variable-long : (t : ℕ) (c : lts.After-variable-nodes (calls t) (given t) block-reads.Post) → length (c .variable-nodes .last .1 .1 .1 .1 .1 .1 .1 .0) ≡ length (to-first t c .decode-block .last .1 .1 .1 .1 .1 .1 .1 .0)
-variable-long t c = c .variable-nodes .kept .1 .1 .1 .1 .1 .1 .1 .0
+variable-long : (t : ℕ) (c : lts.After-variable-nodes (calls t) (given t) block-reads.Post) → length (c .variable-nodes .last .1 .1 .1 .1 .1 .0) ≡ length (to-first t c .decode-block .last .1 .1 .1 .1 .1 .1 .1 .0)
+variable-long t c = c .variable-nodes .kept .1 .1 .1 .1 .1 .0
 
 -- what is known after the second half
 second-half : (t : ℕ) (c : lts.After-decode-block2 (calls t) (given t) block-reads.Post)
-    → laws.SecondHalf (layer t (to-else t (to-checked t (to-first t (to-variable t c))))) (entry t (to-else t (to-checked t (to-first t (to-variable t c)))) .pre .1)
+    → laws.SecondHalf (layer t (to-else t (to-checked t (to-first t (to-variable t c))))) (again t (to-checked t (to-first t (to-variable t c))))
     (first-half t (to-first t (to-variable t c))) (variable-long t (to-variable t c)) (to-variable t c .variable-nodes .ensures)
     (c .decode-block2 .last .1 .1 .1 .1 .1 .1 .1 .0) (c .decode-block2 .last .1 .1 .1 .1 .1 .1 .1 .1 .0) (c .decode-block2 .last .1 .1 .1 .1 .1 .1 .1 .1 .1 .0) (c .decode-block2 .last .1 .1 .1 .1 .1 .1 .1 .1 .1 .1 .0) (c .decode-block2 .result)
 second-half t c = record { word-long = c .decode-block2 .kept .1 .1 .1 .1 .1 .1 .1 .1 .0; decoded = c .decode-block2 .ensures }
@@ -134,38 +162,77 @@ add-next-2 t c = search needs
 mul-cut : (t : ℕ) → lts.Need-mul-cut (calls t) (given t) block-reads.Post
 mul-cut t c = search needs
 
+mul-check-nodes : (t : ℕ) → lts.Need-mul-check-nodes (calls t) (given t) block-reads.Post
+mul-check-nodes t c = search needs
+
+sub-check-nodes : (t : ℕ) → lts.Need-sub-check-nodes (calls t) (given t) block-reads.Post
+sub-check-nodes t c = search needs
+
+part-check-nodes-start : (t : ℕ) → lts.Need-part-check-nodes-start (calls t) (given t) block-reads.Post
+part-check-nodes-start t c = search needs
+
+part-check-nodes-end : (t : ℕ) → lts.Need-part-check-nodes-end (calls t) (given t) block-reads.Post
+part-check-nodes-end t c = search needs
+
 check-nodes-requires : (t : ℕ) → lts.Need-check-nodes-requires (calls t) (given t) block-reads.Post
-check-nodes-requires t c κs = laws.at-layer (layer t (c .before)) (entry t (c .before) .pre .1) refl (λ i l. refl)
+check-nodes-requires t c κs = let e = c .before .before in (laws.at-kernels (layer t e) (entry t e .pre .1), laws.at-room (layer t e) (entry t e .pre .1))
 
 sub-decode-block : (t : ℕ) → lts.Need-sub-decode-block (calls t) (given t) block-reads.Post
 sub-decode-block t c = search needs
 
 slice-aggregate-decode-block : (t : ℕ) → lts.Need-slice-aggregate-decode-block (calls t) (given t) block-reads.Post
-slice-aggregate-decode-block t c = sym (length-take-le (length (entry t (to-else t (c .before .before .before)) .args .map .now) / 2) (entry t (to-else t (c .before .before .before)) .args .map .now) (sizes t (to-else t (c .before .before .before)) .in-map))
+slice-aggregate-decode-block t c = sym (length-take-le (length (entry t (to-else t (c .before .before .before .before .before)) .args .map .now) / 2) (entry t (to-else t (c .before .before .before .before .before)) .args .map .now) (sizes t (to-else t (c .before .before .before .before .before)) .in-map))
 
 slice-relend-prefix-decode-block : (t : ℕ) → lts.Need-slice-relend-prefix-decode-block (calls t) (given t) block-reads.Post
 slice-relend-prefix-decode-block t c = search needs
 
 slice-aggregate-decode-block-2 : (t : ℕ) → lts.Need-slice-aggregate-decode-block-2 (calls t) (given t) block-reads.Post
-slice-aggregate-decode-block-2 t c = sym (length-take-le (length (entry t (to-else t (c .before .before .before .before .before)) .args .map .now) / 2) (entry t (to-else t (c .before .before .before .before .before)) .args .word .now) (sizes t (to-else t (c .before .before .before .before .before)) .in-word))
+slice-aggregate-decode-block-2 t c = sym (length-take-le (length (entry t (to-else t (c .before .before .before .before .before .before .before)) .args .map .now) / 2) (entry t (to-else t (c .before .before .before .before .before .before .before)) .args .word .now) (sizes t (to-else t (c .before .before .before .before .before .before .before)) .in-word))
 
 slice-relend-prefix-decode-block-2 : (t : ℕ) → lts.Need-slice-relend-prefix-decode-block-2 (calls t) (given t) block-reads.Post
 slice-relend-prefix-decode-block-2 t c = search needs
 
 slice-aggregate-decode-block-3 : (t : ℕ) → lts.Need-slice-aggregate-decode-block-3 (calls t) (given t) block-reads.Post
-slice-aggregate-decode-block-3 t c = sym (length-take-le (length (entry t (to-else t (c .before .before .before .before .before .before)) .args .map .now) / 2) (entry t (to-else t (c .before .before .before .before .before .before)) .args .symbols .now) (sizes t (to-else t (c .before .before .before .before .before .before)) .in-symbols))
+slice-aggregate-decode-block-3 t c = sym (length-take-le (length (entry t (to-else t (c .before .before .before .before .before .before .before .before)) .args .map .now) / 2) (entry t (to-else t (c .before .before .before .before .before .before .before .before)) .args .symbols .now) (sizes t (to-else t (c .before .before .before .before .before .before .before .before)) .in-symbols))
 
 slice-relend-prefix-decode-block-3 : (t : ℕ) → lts.Need-slice-relend-prefix-decode-block-3 (calls t) (given t) block-reads.Post
 slice-relend-prefix-decode-block-3 t c = search needs
 
 slice-aggregate-decode-block-4 : (t : ℕ) → lts.Need-slice-aggregate-decode-block-4 (calls t) (given t) block-reads.Post
-slice-aggregate-decode-block-4 t c = sym (length-take-le (64 * (length (entry t (to-else t (c .before .before .before .before .before .before .before)) .args .map .now) / 2)) (entry t (to-else t (c .before .before .before .before .before .before .before)) .args .report .now) (sizes t (to-else t (c .before .before .before .before .before .before .before)) .in-report))
+slice-aggregate-decode-block-4 t c = sym (length-take-le (cut t (c .before .before .before .before .before .before .before .before .before)) (noted t (c .before .before .before .before .before .before .before .before .before)) (noted-room t (c .before .before .before .before .before .before .before .before .before)))
 
 decode-block-requires : (t : ℕ) → lts.Need-decode-block-requires (calls t) (given t) block-reads.Post
-decode-block-requires t c κs = let e = to-else t (c .before .before .before .before .before .before .before) in (fewer (entry t e .args .layers) t (layer t e) (entry t e .pre .0), laws.at-first (layer t e) (entry t e .pre .1) (c .before .before .before .before .before .before .before .check-nodes .kept .1 .1 .1 .1 .1 .0) (c .before .before .before .before .before .before .before .check-nodes .ensures))
+decode-block-requires t c κs =
+    let d = c .before .before .before .before .before .before .before .before .before in
+    let e = to-else t d in
+    (fewer (entry t e .args .layers) t (layer t e) (entry t e .pre .0), laws.at-first (layer t e) (again t d) (d .check-nodes .kept .1 .1 .1 .1 .1 .0) (d .check-nodes .ensures))
+
+-- the report is as long as it was, so the part from its second half on is in it
+ordered-part : (t : ℕ) (d : lts.After-decode-block (calls t) (given t) block-reads.Post)
+    → cut t (to-checked t d) ≤ length (d .decode-block .last .1 .1 .1 .1 .1 .1 .1 .1 .1 .1 .0 ++ drop (cut t (to-checked t d)) (noted t (to-checked t d)))
+ordered-part t d =
+    let l = noted-room t (to-checked t d) in
+    let q = polar.lent-long (cut t (to-checked t d)) (noted t (to-checked t d)) (d .decode-block .last .1 .1 .1 .1 .1 .1 .1 .1 .1 .1 .0) (d .decode-block .kept .1 .1 .1 .1 .1 .1 .1 .1 .1 .1 .0) l in
+    omega arith
+
+mul-variable-nodes : (t : ℕ) → lts.Need-mul-variable-nodes (calls t) (given t) block-reads.Post
+mul-variable-nodes t c = let z = sizes t (to-else t (to-checked t (c .before .before .before .before .before .before .before .before .before .before))) in omega arith
+
+sub-variable-nodes : (t : ℕ) → lts.Need-sub-variable-nodes (calls t) (given t) block-reads.Post
+sub-variable-nodes t c = ordered-part t (c .before .before .before .before .before .before .before .before .before .before)
+
+part-variable-nodes-start : (t : ℕ) → lts.Need-part-variable-nodes-start (calls t) (given t) block-reads.Post
+part-variable-nodes-start t c = ordered-part t (c .before .before .before .before .before .before .before .before .before .before .before)
+
+part-variable-nodes-end : (t : ℕ) → lts.Need-part-variable-nodes-end (calls t) (given t) block-reads.Post
+part-variable-nodes-end t c = search needs
 
 variable-nodes-requires : (t : ℕ) → lts.Need-variable-nodes-requires (calls t) (given t) block-reads.Post
-variable-nodes-requires t c κs = let d = c .before .before .before .before .before .before .before .before .before .before in let e = to-else t (to-checked t d) in (laws.at-variable (layer t e) (entry t e .pre .1) (first-half t d), laws.at-symbols (layer t e) (entry t e .pre .1) (first-half t d))
+variable-nodes-requires t c κs =
+    let d = c .before .before .before .before .before .before .before .before .before .before .before .before in
+    let e = to-else t (to-checked t d) in
+    let g = again t (to-checked t d) in
+    (laws.at-variable (layer t e) g (first-half t d), laws.at-symbols (layer t e) g (first-half t d), laws.at-ordered (layer t e) g (first-half t d))
 
 sub-decode-block-2 : (t : ℕ) → lts.Need-sub-decode-block-2 (calls t) (given t) block-reads.Post
 sub-decode-block-2 t c = search needs
@@ -181,7 +248,7 @@ part-decode-block-end t c = search needs
 
 sub-decode-block-4 : (t : ℕ) → lts.Need-sub-decode-block-4 (calls t) (given t) block-reads.Post
 sub-decode-block-4 t c =
-    let d = c .before .before .before .before .before .before .before .before .before .before .before .before .before .before .before in
+    let d = c .before .before .before .before .before .before .before .before .before .before .before .before .before .before .before .before .before in
     let e = to-else t (to-checked t d) in
     let l = sizes t e .in-word in
     let q = polar.lent-long (length (entry t e .args .map .now) / 2) (entry t e .args .word .now) (d .decode-block .last .1 .1 .1 .1 .1 .1 .1 .1 .0) (d .decode-block .kept .1 .1 .1 .1 .1 .1 .1 .1 .0) l in
@@ -196,7 +263,7 @@ part-decode-block-end-2 t c = search needs
 
 sub-decode-block-5 : (t : ℕ) → lts.Need-sub-decode-block-5 (calls t) (given t) block-reads.Post
 sub-decode-block-5 t c =
-    let d = c .before .before .before .before .before .before .before .before .before .before .before .before .before .before .before .before in
+    let d = c .before .before .before .before .before .before .before .before .before .before .before .before .before .before .before .before .before .before in
     let e = to-else t (to-checked t d) in
     let l = sizes t e .in-symbols in
     let q = polar.lent-long (length (entry t e .args .map .now) / 2) (entry t e .args .symbols .now) (d .decode-block .last .1 .1 .1 .1 .1 .1 .1 .1 .1 .0) (d .decode-block .kept .1 .1 .1 .1 .1 .1 .1 .1 .1 .0) l in
@@ -211,15 +278,10 @@ part-decode-block-end-3 t c = search needs
 
 mul-decode-block : (t : ℕ) → lts.Need-mul-decode-block (calls t) (given t) block-reads.Post
 mul-decode-block t c =
-    let z = sizes t (to-else t (to-checked t (c .before .before .before .before .before .before .before .before .before .before .before .before .before .before .before .before .before))) in omega arith
+    let z = sizes t (to-else t (to-checked t (c .before .before .before .before .before .before .before .before .before .before .before .before .before .before .before .before .before .before .before))) in omega arith
 
 sub-decode-block-6 : (t : ℕ) → lts.Need-sub-decode-block-6 (calls t) (given t) block-reads.Post
-sub-decode-block-6 t c =
-    let d = c .before .before .before .before .before .before .before .before .before .before .before .before .before .before .before .before .before in
-    let e = to-else t (to-checked t d) in
-    let l = sizes t e .in-report in
-    let q = polar.lent-long (64 * (length (entry t e .args .map .now) / 2)) (entry t e .args .report .now) (d .decode-block .last .1 .1 .1 .1 .1 .1 .1 .1 .1 .1 .0) (d .decode-block .kept .1 .1 .1 .1 .1 .1 .1 .1 .1 .1 .0) l in
-    omega arith
+sub-decode-block-6 t c = ordered-part t (c .before .before .before .before .before .before .before .before .before .before .before .before .before .before .before .before .before .before .before)
 
 part-decode-block-start-4 : (t : ℕ) → lts.Need-part-decode-block-start-4 (calls t) (given t) block-reads.Post
 part-decode-block-start-4 t c =
@@ -233,7 +295,7 @@ decode-block-requires-2 t c κs =
     let v = c .before .before .before .before .before .before .before in
     let d = to-first t v in
     let e = to-else t (to-checked t d) in
-    (fewer (entry t e .args .layers) t (layer t e) (entry t e .pre .0), laws.at-second (layer t e) (entry t e .pre .1) (first-half t d) (variable-long t v) (v .variable-nodes .ensures))
+    (fewer (entry t e .args .layers) t (layer t e) (entry t e .pre .0), laws.at-second (layer t e) (again t (to-checked t d)) (first-half t d) (variable-long t v) (v .variable-nodes .ensures))
 
 join-halves-requires : (t : ℕ) → lts.Need-join-halves-requires (calls t) (given t) block-reads.Post
 join-halves-requires t c κs =
@@ -245,7 +307,7 @@ add-result t c =
     let v = to-variable t s in
     let d = to-first t v in
     let e = to-else t (to-checked t d) in
-    let n = laws.at-count (layer t e) (entry t e .pre .1) (first-half t d) (variable-long t v) (v .variable-nodes .ensures) (second-half t s) in
+    let n = laws.at-count (layer t e) (again t (to-checked t d)) (first-half t d) (variable-long t v) (v .variable-nodes .ensures) (second-half t s) in
     omega arith
 
 add-result-2 : (t : ℕ) → lts.Need-add-result-2 (calls t) (given t) block-reads.Post
@@ -254,7 +316,7 @@ add-result-2 t c =
     let v = to-variable t s in
     let d = to-first t v in
     let e = to-else t (to-checked t d) in
-    let n = laws.at-count (layer t e) (entry t e .pre .1) (first-half t d) (variable-long t v) (v .variable-nodes .ensures) (second-half t s) in
+    let n = laws.at-count (layer t e) (again t (to-checked t d)) (first-half t d) (variable-long t v) (v .variable-nodes .ensures) (second-half t s) in
     omega arith
 
 same-length-5 : (t : ℕ) → lts.Need-same-length-5 (calls t) (given t) block-reads.Post
@@ -287,7 +349,8 @@ same-length-8 t c =
     let v = to-variable t s in
     let d = to-first t v in
     let e = to-else t (to-checked t d) in
-    polar.lent-whole (64 * (length (entry t e .args .map .now) / 2)) (entry t e .args .report .now) (d .decode-block .last .1 .1 .1 .1 .1 .1 .1 .1 .1 .1 .0) (d .decode-block .kept .1 .1 .1 .1 .1 .1 .1 .1 .1 .1 .0) (sizes t e .in-report) (s .decode-block2 .last .1 .1 .1 .1 .1 .1 .1 .1 .1 .1 .0) (s .decode-block2 .kept .1 .1 .1 .1 .1 .1 .1 .1 .1 .1 .0)
+    polar.lent-whole (cut t (to-checked t d)) (noted t (to-checked t d)) (d .decode-block .last .1 .1 .1 .1 .1 .1 .1 .1 .1 .1 .0) (d .decode-block .kept .1 .1 .1 .1 .1 .1 .1 .1 .1 .1 .0) (noted-room t (to-checked t d)) (s .decode-block2 .last .1 .1 .1 .1 .1 .1 .1 .1 .1 .1 .0) (s .decode-block2 .kept .1 .1 .1 .1 .1 .1 .1 .1 .1 .1 .0)
+    ∙ noted-long t (to-checked t d)
 
 returns-2 : (t : ℕ) → lts.Need-returns-2 (calls t) (given t) block-reads.Post
 returns-2 t c =
@@ -296,8 +359,8 @@ returns-2 t c =
     let d = to-first t v in
     let e = to-else t (to-checked t d) in
     let j = c .before .before .join-halves in
-    let g = laws.at-joins (layer t e) (entry t e .pre .1) (first-half t d) (variable-long t v) (v .variable-nodes .ensures) (second-half t s) in
-    laws.at-done (layer t e) (entry t e .pre .1) (first-half t d) (variable-long t v) (v .variable-nodes .ensures) (second-half t s) (j .kept .1 .1 .1 .0) (j .ensures .joins g)
+    let g = laws.at-joins (layer t e) (again t (to-checked t d)) (first-half t d) (variable-long t v) (v .variable-nodes .ensures) (second-half t s) in
+    laws.at-done (layer t e) (again t (to-checked t d)) (first-half t d) (variable-long t v) (v .variable-nodes .ensures) (second-half t s) (j .kept .1 .1 .1 .0) (j .ensures .joins g)
 
 pub +decode-block-spec : {M : Type 1} → statement M
 +decode-block-spec =
@@ -314,6 +377,10 @@ pub +decode-block-spec : {M : Type 1} → statement M
     (add-next t)
     (add-next-2 t)
     (mul-cut t)
+    (mul-check-nodes t)
+    (sub-check-nodes t)
+    (part-check-nodes-start t)
+    (part-check-nodes-end t)
     (check-nodes-requires t)
     (sub-decode-block t)
     (slice-aggregate-decode-block t)
@@ -324,6 +391,10 @@ pub +decode-block-spec : {M : Type 1} → statement M
     (slice-relend-prefix-decode-block-3 t)
     (slice-aggregate-decode-block-4 t)
     (decode-block-requires t)
+    (mul-variable-nodes t)
+    (sub-variable-nodes t)
+    (part-variable-nodes-start t)
+    (part-variable-nodes-end t)
     (variable-nodes-requires t)
     (sub-decode-block-2 t)
     (sub-decode-block-3 t)

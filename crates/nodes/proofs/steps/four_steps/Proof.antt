@@ -1,7 +1,7 @@
 -- `four_steps` meets its contract: what each step leaves may be given to the next.
 use Prim.Native.Nat.{_+_, _-_}
 use borrow.Author.Needs.{needs}
-use Rattle.nodes.specs.Steps.{Held}
+use Rattle.nodes.specs.Steps.{fourSteps, Held}
 use Rattle.nodes.proofs.StepLaws.{step-held}
 use Rattle.nodes.proofs.steps.four_steps.Statement.{statement}
 use Rattle.nodes.proofs.steps.four_steps.Tie as tie
@@ -35,6 +35,7 @@ step-requires-4 c κs =
     (step-held (c .before .step2 .result) (a .x1) (a .x2) (a .w2) (held1 (c .before)) (p .1 .small2) (p .4) (c .step3 .ensures), p .1 .small3, p .5 .most)
 
 returns : tie.Need-returns
+unfolding fourSteps
 returns c =
     let e0 = c .before .before .before .step .ensures in
     let e1 = c .before .before .step2 .ensures in

@@ -6,17 +6,17 @@ use mathlib.Core.Path.{_≡_, refl, sym, ap, _∙_, subst}
 use mathlib.Core.List.{List}
 use lib.ListN.{length, getD}
 use Rattle.vector.proofs.Laws.{tabulate-ext}
-use Rattle.nodes.specs.Steps.{raised, lowered, leastSum, AreCopies, Held}
-use Rattle.nodes.proofs.LeastLaws.{raised-long, given, least-held, first-held, four-least}
+use Rattle.nodes.specs.Steps.{raised, lowered, leastSum, columnTo, penaltyBefore, AreCopies, Held}
+use Rattle.nodes.proofs.LeastLaws.{raised-long, given, least-held, first-held, column-least, sums-are-node}
 use Rattle.nodes.proofs.steps.least_sums.Statement.{statement}
 use Rattle.nodes.proofs.steps.least_sums.Tie as tie
 
 abbrev Inv-loop : tie.InvT-loop
-Inv-loop theta x copied r₀ y₀ q₀ r y q =
-    (q ≤ 16) × (length r ≡ 64) × (y ≡ getD x (4 * q - 1) 0) × ((b : ℕ) → b < 64 → getD r b 0 + y ≡ leastSum theta x b (4 * q - 1) + 8191)
+Inv-loop theta x copied r₀ y₀ column₀ r y column =
+    (column ≤ 8) × (length r ≡ 64) × ((b : ℕ) → b < 64 → getD r b 0 + y ≡ leastSum theta x b (8 * column - 1) + 8191)
 
 abbrev μ-loop : tie.MeasureT-loop
-μ-loop theta x copied r₀ y₀ q₀ r y q = 16 - q
+μ-loop theta x copied r₀ y₀ column₀ r y column = 8 - column
 
 -- the copies are those of theta's vector, raised
 copied-are : (c : tie.After-copies Inv-loop μ-loop) → AreCopies 8 (raised (c .before .before .args .theta .now)) (c .copies .result)
@@ -26,7 +26,7 @@ copied-are c = subst (λ (v : List ℕ). AreCopies 8 v (c .copies .result)) (c .
 held-at : (c : tie.At-loop Inv-loop μ-loop) → (b : ℕ) → b < 64 → Held (getD (c .loop .r) b 0 + c .loop .y)
 held-at c b l =
     let start = c .before .before .before .before in
-    subst Held (sym (c .loop .inv .3 b l)) (least-held (start .args .theta .now) (start .args .x .now) b (4 * c .loop .q - 1) (start .pre .0) (start .pre .1) l)
+    subst Held (sym (c .loop .inv .2 b l)) (least-held (start .args .theta .now) (start .args .x .now) b (8 * c .loop .column - 1) (start .pre .0) (start .pre .1) l)
 
 raised-requires : tie.Need-raised-requires Inv-loop μ-loop
 raised-requires c κs = search needs
@@ -43,54 +43,53 @@ loop-holds c =
     let e = c .before .before .raised .ensures in (
       omega arith,
       ap length e ∙ raised-long (a .theta .now),
-      refl,
       λ b l. ap (λ (v : List ℕ). getD v b 0 + getD (a .x .now) 0 0) e ∙ first-held (a .theta .now) (a .x .now) b l,
     )
 
-all-steps-requires : tie.Need-all-steps-requires Inv-loop μ-loop
-all-steps-requires c κs =
+column-steps-requires : tie.Need-column-steps-requires Inv-loop μ-loop
+column-steps-requires c κs =
     let head = c .before .before in
     let start = head .before .before .before .before in (
-      given (start .args .theta .now) (head .loop .q) (copied-are (head .before .before)) (start .pre .0) (start .pre .1) (omega arith),
+      given (start .args .theta .now) (copied-are (head .before .before)) (start .pre .0) (start .pre .1),
+      omega arith,
       head .loop .inv .1,
       held-at head,
     )
 
-mul-y : tie.Need-mul-y Inv-loop μ-loop
-mul-y c = search needs
-
 add-y : tie.Need-add-y Inv-loop μ-loop
 add-y c = search needs
 
-mul-y-2 : tie.Need-mul-y-2 Inv-loop μ-loop
-mul-y-2 c = search needs
+mul-y : tie.Need-mul-y Inv-loop μ-loop
+mul-y c = search needs
 
 element-copy-out-y-2 : tie.Need-element-copy-out-y-2 Inv-loop μ-loop
 element-copy-out-y-2 c = search needs
 
-add-q : tie.Need-add-q Inv-loop μ-loop
-add-q c = search needs
+add-column : tie.Need-add-column Inv-loop μ-loop
+add-column c = search needs
 
 loop-less : tie.Need-loop-less Inv-loop μ-loop
 loop-less c = search needs
 
 loop-again : tie.Need-loop-again Inv-loop μ-loop
+unfolding penaltyBefore
 loop-again c =
     let head = c .before .before .before .before in
     let start = head .before .before .before .before in
     let theta = start .args .theta .now in
     let x = start .args .x .now in
-    let q = head .loop .q in
-    let m = c .before .all-steps .ensures in
-    let l : q < 16 = omega arith in
-    let n : 4 * q + 3 ≡ 4 * (q + 1) - 1 = omega arith in (
+    let column = head .loop .column in
+    let m = c .before .column-steps .ensures in
+    let l : column < 8 = omega arith in
+    let k : column + 56 ≡ 32 * 1 + column + 24 = omega arith in
+    let n : 8 * column + 4 * 2 - 1 ≡ 8 * (column + 1) - 1 = omega arith in (
       omega arith,
       m .long,
-      ap (λ (k : ℕ). getD x k 0) n,
       λ b s.
-          ap (λ (k : ℕ). k + getD x (4 * q + 3) 0) (m .done b (omega arith) s)
-          ∙ four-least theta q b (copied-are (head .before .before)) (start .pre .1) l s (head .loop .y) _ (head .loop .inv .3 b s)
-          ∙ ap (λ (k : ℕ). leastSum theta x b k + 8191) n,
+          ap (λ (i : ℕ). getD (c .before .column-steps .result) b 0 + getD x i 0) k
+          ∙ ap (λ (z : ℕ). z + getD x (32 * 1 + column + 24) 0) (m .done b (omega arith) s)
+          ∙ column-least theta b (copied-are (head .before .before)) (start .pre .1) s column (head .loop .y) _ l (head .loop .inv .2 b s) 2 (omega arith)
+          ∙ ap (λ (i : ℕ). leastSum theta x b i + 8191) n,
     )
 
 lowered-requires : tie.Need-lowered-requires Inv-loop μ-loop
@@ -101,11 +100,12 @@ unfolding lowered
 returns c =
     let head = c .before .before .before in
     let start = head .before .before .before .before in
-    let n : 4 * head .loop .q - 1 ≡ 63 = omega arith in
+    let n : 8 * head .loop .column - 1 ≡ 63 = omega arith in
     c .lowered .ensures
     ∙ tabulate-ext 64 _ _ (λ b l.
-    let e = head .loop .inv .3 b l ∙ ap (λ (k : ℕ). leastSum (start .args .theta .now) (start .args .x .now) b k + 8191) n in
+    let e = head .loop .inv .2 b l ∙ ap (λ (k : ℕ). leastSum (start .args .theta .now) (start .args .x .now) b k + 8191) n in
     omega arith)
+    ∙ sums-are-node (start .args .theta .now) (start .args .x .now)
 
 pub least-sums-spec : {M : Type 1} → statement M
 least-sums-spec =
@@ -117,12 +117,11 @@ least-sums-spec =
     copies-requires
     element-copy-out-y
     loop-holds
-    all-steps-requires
-    mul-y
+    column-steps-requires
     add-y
-    mul-y-2
+    mul-y
     element-copy-out-y-2
-    add-q
+    add-column
     loop-less
     loop-again
     lowered-requires

@@ -9,35 +9,31 @@ use lib.ListN.{getD}
 use Rattle.vector.specs.Vector.{tabulate}
 use Rattle.vector.proofs.Laws.{tabulate-by}
 use Rattle.gf64.specs.Field.{_⊕_}
-use Rattle.scms.specs.Nodes.{sumAt, sums}
-use Rattle.nodes.specs.Parts.{lowBits}
+use Rattle.scms.specs.Nodes.{sumAt}
+use Rattle.nodes.specs.Parts.{sumsFrom}
 use Rattle.nodes.specs.Steps.{Mapped}
 use Rattle.nodes.proofs.StepLaws.{map-none, map-ext, map-join, map-all}
 use Rattle.nodes.proofs.TurnLaws.{turned-at, swapped-small}
-use Rattle.nodes.proofs.LowLaws.{low-small, scaled-small}
 use Rattle.nodes.proofs.variable.sums.Statement.{statement}
 use Rattle.nodes.proofs.variable.sums.Tie as tie
 
 abbrev Inv-loop : tie.InvT-loop
-Inv-loop theta phi h u x symbol t r₀ block₀ r block = Mapped (λ b _. sumAt theta x u b) 0 (8 * block) r₀ r × (block ≤ 8)
+Inv-loop theta x u symbol t r₀ block₀ r block = Mapped (λ b _. sumAt theta x u b) 0 (8 * block) r₀ r × (block ≤ 8)
 
 abbrev μ-loop : tie.MeasureT-loop
-μ-loop theta phi h u x symbol t r₀ block₀ r block = 8 - block
+μ-loop theta x u symbol t r₀ block₀ r block = 8 - block
 
 -- the entry, from the loop's head; and that theta's entries for a block are within its vector
 abbrev entry : tie.At-loop Inv-loop μ-loop → tie.Start Inv-loop μ-loop
-entry c = c .before .before .before .before
+entry c = c .before .before .before
 
 within : (c : tie.In-loop Inv-loop μ-loop) → bitXor (c .before .loop .block) (entry (c .before) .args .u / 8) < 8
 within c =
     let p = entry (c .before) .pre .0 in
     xor-lt 3 (c .before .loop .block) (entry (c .before) .args .u / 8) (omega arith) (omega arith)
 
-scaled-requires : tie.Need-scaled-requires Inv-loop μ-loop
-scaled-requires c κs = search needs
-
 turned-requires : tie.Need-turned-requires Inv-loop μ-loop
-turned-requires c κs = c .before .before .pre .1 .long
+turned-requires c κs = c .before .pre .1 .long
 
 loop-holds : tie.Need-loop-holds Inv-loop μ-loop
 loop-holds c = (map-none (omega arith) refl, omega arith)
@@ -47,12 +43,12 @@ mul-from c = let l = within c in omega arith
 
 block-sums-requires : tie.Need-block-sums-requires Inv-loop μ-loop
 block-sums-requires c κs =
-    let head = c .before .before .before in
+    let head = c .before .before in
     let a = entry head .args in
     let p = entry head .pre in
-    let l = within (c .before .before) in (
+    let l = within (c .before) in (
       swapped-small (a .theta .now) (a .u % 8) (omega arith) (head .before .turned .ensures) (p .1),
-      scaled-small (a .h) (lowBits (a .phi .now)) _ (head .before .before .before .scaled .ensures) (low-small (a .phi .now) refl),
+      p .2,
       omega arith,
       head .loop .inv .0 .long,
       omega arith,
@@ -67,11 +63,11 @@ loop-less c = search needs
 loop-again : tie.Need-loop-again Inv-loop μ-loop
 unfolding _⊕_
 loop-again c =
-    let head = c .before .before .before .before in
+    let head = c .before .before .before in
     let a = entry head .args in
     let block = head .loop .block in
     let t = head .before .turned .result in
-    let x = head .before .before .before .scaled .result in
+    let x = a .x .now in
     let same = map-ext {g = λ b _. sumAt (a .theta .now) x (a .u) b} (c .block-sums .ensures) (λ b z p q.
     let k : block ≡ b / 8 = omega arith in
     let l : b < 64 = omega arith in
@@ -80,13 +76,10 @@ loop-again c =
     (map-all (map-join (omega arith) (omega arith) (head .loop .inv .0) same) (omega arith), omega arith)
 
 returns : tie.Need-returns Inv-loop μ-loop
-unfolding sums
+unfolding sumsFrom
 returns c =
-    let head = c .before in
-    let a = entry head .args in
-    let m = head .loop .inv .0 in
+    let m = c .before .loop .inv .0 in
     tabulate-by 0 64 _ _ (m .long) (λ i l. m .done i (omega arith) (omega arith))
-    ∙ ap (λ (w : List ℕ). tabulate 64 (sumAt (a .theta .now) w (a .u))) (head .before .before .before .scaled .ensures)
 
 pub sums-spec : {M : Type 1} → statement M
 sums-spec =
@@ -94,7 +87,6 @@ sums-spec =
     (tie.spec
     Inv-loop
     μ-loop
-    scaled-requires
     turned-requires
     loop-holds
     mul-from

@@ -9,8 +9,8 @@ use Rattle.gf64.proofs.ProductLaws.{product-lt}
 use Rattle.gf64.proofs.MultipleLaws.{multiples-at}
 use Rattle.scms.specs.Nodes.{scaled}
 use Rattle.nodes.proofs.LowLaws.{low-at}
-use Rattle.nodes.proofs.variable.scaled.Statement.{statement}
-use Rattle.nodes.proofs.variable.scaled.Tie as tie
+use Rattle.nodes.proofs.gather.scaled.Statement.{statement}
+use Rattle.nodes.proofs.gather.scaled.Tie as tie
 
 multiples-requires : tie.Need-multiples-requires
 multiples-requires c κs = search needs

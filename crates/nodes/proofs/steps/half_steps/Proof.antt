@@ -1,0 +1,339 @@
+-- `half_steps` meets its contract: in each block of the half the values before i have taken their steps.
+use Prim.Native.Nat.{ℕ, _+_, _-_, _*_, _/_, _%_, _≤_, _<_}
+use native.Mathlib.Omega.{arith}
+use borrow.Author.Needs.{needs}
+use mathlib.Core.Path.{_≡_, refl, sym, _∙_, subst}
+use lib.Bits.{bitXor, xor-lt}
+use lib.ListN.{getD}
+use Rattle.gf64.specs.Field.{_⊕_}
+use Rattle.nodes.specs.Steps.{Held, Raised, FourSmall, fourSteps, sourceOf, firstOf, stepsAt}
+use Rattle.nodes.proofs.StepLaws.{LanesMapped, lanes-none, lanes-more, lanes-all, source-is, steps-are}
+use Rattle.nodes.proofs.steps.half_steps.Statement.{statement}
+use Rattle.nodes.proofs.steps.half_steps.Tie as tie
+
+abbrev Inv-loop : tie.InvT-loop
+Inv-loop copies x q y half first to from x0 x1 x2 x3 r₀ i₀ r i = LanesMapped (stepsAt copies x q y) half i r₀ r × (i ≤ 8) × (from ≤ 480)
+
+abbrev μ-loop : tie.MeasureT-loop
+μ-loop copies x q y half first to from x0 x1 x2 x3 r₀ i₀ r i = 8 - i
+
+-- the entry, from the loop's head
+abbrev entry : tie.At-loop Inv-loop μ-loop → tie.Start Inv-loop μ-loop
+entry c = c .before .before .before .before .before
+
+-- where the copies are read is within them
+within : (c : tie.Start Inv-loop μ-loop) → bitXor (c .args .q) (c .args .half) < 16
+within c = let p = c .pre in xor-lt 4 (c .args .q) (c .args .half) (omega arith) (omega arith)
+
+-- what is held for an entry of the half that has not been reached
+held-at : (c : tie.In-loop Inv-loop μ-loop) (b : ℕ) → b < 64 → b / 32 ≡ entry (c .before) .args .half → c .before .loop .i ≤ b % 8
+    → Held (getD (c .before .loop .r) b 0 + entry (c .before) .args .y)
+held-at c b l h m =
+    let s = entry (c .before) in
+    subst (λ (k : ℕ). Held (k + s .args .y)) (sym (c .before .loop .inv .0 .rest b h m)) (s .pre .4 b l (omega arith))
+
+-- the four penalties are small
+small-at : (c : tie.Start Inv-loop μ-loop)
+    → FourSmall (getD (c .args .x .now) (firstOf (c .args .q)) 0) (getD (c .args .x .now) (firstOf (c .args .q) + 8) 0) (getD (c .args .x .now) (firstOf (c .args .q) + 16) 0) (getD (c .args .x .now) (firstOf (c .args .q) + 24) 0)
+small-at c =
+    let q = c .args .q in
+    let p = c .pre in
+    record {
+      small0 = p .0 .small (firstOf q) (omega arith);
+      small1 = p .0 .small (firstOf q + 8) (omega arith);
+      small2 = p .0 .small (firstOf q + 16) (omega arith);
+      small3 = p .0 .small (firstOf q + 24) (omega arith);
+    }
+
+-- the sizes in a turn of the loop
+room : (c : tie.In-loop Inv-loop μ-loop) → (entry (c .before) .args .half < 2) × (c .before .loop .i < 8) × (bitXor (entry (c .before) .args .q) (entry (c .before) .args .half) < 16)
+room c = let p = entry (c .before) .pre in (omega arith, omega arith, within (entry (c .before)))
+
+-- what is read of the copies is raised
+raised-at : (c : tie.In-loop Inv-loop μ-loop) (n : ℕ) → n < 512 → Raised (getD (entry (c .before) .args .copies .now) n 0)
+raised-at c n l = entry (c .before) .pre .0 .raised n l
+
+-- the steps of the value at i of block m, from where the copies are read for it
+value-at : (c : tie.In-loop Inv-loop μ-loop) (m b f0 f1 f2 f3 : ℕ) → m < 4 → b ≡ 32 * entry (c .before) .args .half + 8 * m + c .before .loop .i
+    → f0 ≡ 32 * (entry (c .before) .args .q ⊕ entry (c .before) .args .half) + 8 * (m ⊕ 0) → f1 ≡ 32 * (entry (c .before) .args .q ⊕ entry (c .before) .args .half) + 8 * (m ⊕ 1)
+    → f2 ≡ 32 * (entry (c .before) .args .q ⊕ entry (c .before) .args .half) + 8 * (m ⊕ 2) → f3 ≡ 32 * (entry (c .before) .args .q ⊕ entry (c .before) .args .half) + 8 * (m ⊕ 3)
+    → fourSteps (entry (c .before) .args .y) (getD (entry (c .before) .args .x .now) (firstOf (entry (c .before) .args .q)) 0) (getD (entry (c .before) .args .x .now) (firstOf (entry (c .before) .args .q) + 8) 0) (getD (entry (c .before) .args .x .now) (firstOf (entry (c .before) .args .q) + 16) 0) (getD (entry (c .before) .args .x .now) (firstOf (entry (c .before) .args .q) + 24) 0)
+    (getD (entry (c .before) .args .copies .now) (f0 + c .before .loop .i) 0) (getD (entry (c .before) .args .copies .now) (f1 + c .before .loop .i) 0) (getD (entry (c .before) .args .copies .now) (f2 + c .before .loop .i) 0) (getD (entry (c .before) .args .copies .now) (f3 + c .before .loop .i) 0) (getD (c .before .loop .r) b 0)
+    ≡ stepsAt (entry (c .before) .args .copies .now) (entry (c .before) .args .x .now) (entry (c .before) .args .q) (entry (c .before) .args .y) b (getD (entry (c .before) .args .held) b 0)
+value-at c m b f0 f1 f2 f3 l e e0 e1 e2 e3 =
+    let a = entry (c .before) .args in
+    let r = room c in
+    let s : (j : ℕ) → 32 * (a .q ⊕ a .half) + 8 * (m ⊕ j) ≡ sourceOf (a .q) j (4 * a .half + m) = λ j. source-is (a .q) (a .half) m j (m ⊕ j) l refl in
+    steps-are (a .copies .now) (a .x .now) (a .q) (a .y) (4 * a .half + m) (c .before .loop .i) b f0 f1 f2 f3 _ _ (r .1) (omega arith)
+    (e0 ∙ s 0) (e1 ∙ s 1) (e2 ∙ s 2) (e3 ∙ s 3) (c .before .loop .inv .0 .rest b (omega arith) (omega arith))
+
+mul-first : tie.Need-mul-first Inv-loop μ-loop
+mul-first c = search needs
+
+add-first : tie.Need-add-first Inv-loop μ-loop
+add-first c = search needs
+
+mul-to : tie.Need-mul-to Inv-loop μ-loop
+mul-to c = search needs
+
+mul-from : tie.Need-mul-from Inv-loop μ-loop
+mul-from c = let l = within c in omega arith
+
+mul-x0 : tie.Need-mul-x0 Inv-loop μ-loop
+mul-x0 c = search needs
+
+element-copy-out-x0 : tie.Need-element-copy-out-x0 Inv-loop μ-loop
+element-copy-out-x0 c = search needs
+
+add-x1 : tie.Need-add-x1 Inv-loop μ-loop
+add-x1 c = search needs
+
+mul-x1 : tie.Need-mul-x1 Inv-loop μ-loop
+mul-x1 c = search needs
+
+element-copy-out-x1 : tie.Need-element-copy-out-x1 Inv-loop μ-loop
+element-copy-out-x1 c = search needs
+
+add-x2 : tie.Need-add-x2 Inv-loop μ-loop
+add-x2 c = search needs
+
+mul-x2 : tie.Need-mul-x2 Inv-loop μ-loop
+mul-x2 c = search needs
+
+element-copy-out-x2 : tie.Need-element-copy-out-x2 Inv-loop μ-loop
+element-copy-out-x2 c = search needs
+
+add-x3 : tie.Need-add-x3 Inv-loop μ-loop
+add-x3 c = search needs
+
+mul-x3 : tie.Need-mul-x3 Inv-loop μ-loop
+mul-x3 c = search needs
+
+element-copy-out-x3 : tie.Need-element-copy-out-x3 Inv-loop μ-loop
+element-copy-out-x3 c = search needs
+
+loop-holds : tie.Need-loop-holds Inv-loop μ-loop
+loop-holds c = let l = within (c .before .before .before .before) in (lanes-none (c .before .before .before .before .pre .3), omega arith, omega arith)
+
+add-p0 : tie.Need-add-p0 Inv-loop μ-loop
+add-p0 c = search needs
+
+add-p1 : tie.Need-add-p1 Inv-loop μ-loop
+add-p1 c = search needs
+
+add-p1-2 : tie.Need-add-p1-2 Inv-loop μ-loop
+add-p1-2 c = search needs
+
+add-p2 : tie.Need-add-p2 Inv-loop μ-loop
+add-p2 c = search needs
+
+add-p2-2 : tie.Need-add-p2-2 Inv-loop μ-loop
+add-p2-2 c = search needs
+
+add-p3 : tie.Need-add-p3 Inv-loop μ-loop
+add-p3 c = search needs
+
+add-p3-2 : tie.Need-add-p3-2 Inv-loop μ-loop
+add-p3-2 c = search needs
+
+add-w0 : tie.Need-add-w0 Inv-loop μ-loop
+add-w0 c = search needs
+
+mul-w0 : tie.Need-mul-w0 Inv-loop μ-loop
+mul-w0 c = search needs
+
+element-copy-out-w0 : tie.Need-element-copy-out-w0 Inv-loop μ-loop
+element-copy-out-w0 c = search needs
+
+add-w1 : tie.Need-add-w1 Inv-loop μ-loop
+add-w1 c = search needs
+
+add-w1-2 : tie.Need-add-w1-2 Inv-loop μ-loop
+add-w1-2 c = search needs
+
+mul-w1 : tie.Need-mul-w1 Inv-loop μ-loop
+mul-w1 c = search needs
+
+element-copy-out-w1 : tie.Need-element-copy-out-w1 Inv-loop μ-loop
+element-copy-out-w1 c = search needs
+
+add-w2 : tie.Need-add-w2 Inv-loop μ-loop
+add-w2 c = search needs
+
+add-w2-2 : tie.Need-add-w2-2 Inv-loop μ-loop
+add-w2-2 c = search needs
+
+mul-w2 : tie.Need-mul-w2 Inv-loop μ-loop
+mul-w2 c = search needs
+
+element-copy-out-w2 : tie.Need-element-copy-out-w2 Inv-loop μ-loop
+element-copy-out-w2 c = search needs
+
+add-w3 : tie.Need-add-w3 Inv-loop μ-loop
+add-w3 c = search needs
+
+add-w3-2 : tie.Need-add-w3-2 Inv-loop μ-loop
+add-w3-2 c = search needs
+
+mul-w3 : tie.Need-mul-w3 Inv-loop μ-loop
+mul-w3 c = search needs
+
+element-copy-out-w3 : tie.Need-element-copy-out-w3 Inv-loop μ-loop
+element-copy-out-w3 c = search needs
+
+mul-four-steps : tie.Need-mul-four-steps Inv-loop μ-loop
+mul-four-steps c = search needs
+
+array-read-four-steps : tie.Need-array-read-four-steps Inv-loop μ-loop
+array-read-four-steps c = search needs
+
+four-steps-requires : tie.Need-four-steps-requires Inv-loop μ-loop
+four-steps-requires c κs =
+    let turn = c .before .before .before .before in
+    (held-at turn _ (omega arith) (omega arith) (omega arith), small-at (entry (turn .before)), raised-at turn _ (omega arith), raised-at turn _ (omega arith), raised-at turn _ (omega arith), raised-at turn _ (omega arith))
+
+mul-four-steps-2 : tie.Need-mul-four-steps-2 Inv-loop μ-loop
+mul-four-steps-2 c = search needs
+
+array-read-four-steps-2 : tie.Need-array-read-four-steps-2 Inv-loop μ-loop
+array-read-four-steps-2 c = search needs
+
+four-steps-requires-2 : tie.Need-four-steps-requires-2 Inv-loop μ-loop
+four-steps-requires-2 c κs =
+    let turn = c .before .before .before .before .before in
+    (held-at turn _ (omega arith) (omega arith) (omega arith), small-at (entry (turn .before)), raised-at turn _ (omega arith), raised-at turn _ (omega arith), raised-at turn _ (omega arith), raised-at turn _ (omega arith))
+
+mul-four-steps-3 : tie.Need-mul-four-steps-3 Inv-loop μ-loop
+mul-four-steps-3 c = search needs
+
+array-read-four-steps-3 : tie.Need-array-read-four-steps-3 Inv-loop μ-loop
+array-read-four-steps-3 c = search needs
+
+four-steps-requires-3 : tie.Need-four-steps-requires-3 Inv-loop μ-loop
+four-steps-requires-3 c κs =
+    let turn = c .before .before .before .before .before .before in
+    (held-at turn _ (omega arith) (omega arith) (omega arith), small-at (entry (turn .before)), raised-at turn _ (omega arith), raised-at turn _ (omega arith), raised-at turn _ (omega arith), raised-at turn _ (omega arith))
+
+mul-four-steps-4 : tie.Need-mul-four-steps-4 Inv-loop μ-loop
+mul-four-steps-4 c = search needs
+
+array-read-four-steps-4 : tie.Need-array-read-four-steps-4 Inv-loop μ-loop
+array-read-four-steps-4 c = search needs
+
+four-steps-requires-4 : tie.Need-four-steps-requires-4 Inv-loop μ-loop
+four-steps-requires-4 c κs =
+    let turn = c .before .before .before .before .before .before .before in
+    (held-at turn _ (omega arith) (omega arith) (omega arith), small-at (entry (turn .before)), raised-at turn _ (omega arith), raised-at turn _ (omega arith), raised-at turn _ (omega arith), raised-at turn _ (omega arith))
+
+mul-r : tie.Need-mul-r Inv-loop μ-loop
+mul-r c = let r = room (c .before .before .before .before .before .before .before .before) in omega arith
+
+array-write-r : tie.Need-array-write-r Inv-loop μ-loop
+array-write-r c = let r = room (c .before .before .before .before .before .before .before .before) in omega arith
+
+mul-r-2 : tie.Need-mul-r-2 Inv-loop μ-loop
+mul-r-2 c = let r = room (c .before .before .before .before .before .before .before .before) in omega arith
+
+array-write-r-2 : tie.Need-array-write-r-2 Inv-loop μ-loop
+array-write-r-2 c = let r = room (c .before .before .before .before .before .before .before .before) in omega arith
+
+mul-r-3 : tie.Need-mul-r-3 Inv-loop μ-loop
+mul-r-3 c = let r = room (c .before .before .before .before .before .before .before .before) in omega arith
+
+array-write-r-3 : tie.Need-array-write-r-3 Inv-loop μ-loop
+array-write-r-3 c = let r = room (c .before .before .before .before .before .before .before .before) in omega arith
+
+mul-r-4 : tie.Need-mul-r-4 Inv-loop μ-loop
+mul-r-4 c = let r = room (c .before .before .before .before .before .before .before .before) in omega arith
+
+array-write-r-4 : tie.Need-array-write-r-4 Inv-loop μ-loop
+array-write-r-4 c = let r = room (c .before .before .before .before .before .before .before .before) in omega arith
+
+add-i : tie.Need-add-i Inv-loop μ-loop
+add-i c = let r = room (c .before .before .before .before .before .before .before .before) in omega arith
+
+loop-less : tie.Need-loop-less Inv-loop μ-loop
+loop-less c = let r = room (c .before .before .before .before .before .before .before .before) in omega arith
+
+loop-again : tie.Need-loop-again Inv-loop μ-loop
+unfolding _⊕_
+loop-again c =
+    let turn = c .before .before .before .before .before .before .before .before in
+    let r = room turn in
+    let e0 = c .before .before .before .four-steps .ensures ∙ value-at turn 0 _ _ _ _ _ (omega arith) (omega arith) (omega arith) (omega arith) (omega arith) (omega arith) in
+    let e1 = c .before .before .four-steps2 .ensures ∙ value-at turn 1 _ _ _ _ _ (omega arith) (omega arith) (omega arith) (omega arith) (omega arith) (omega arith) in
+    let e2 = c .before .four-steps3 .ensures ∙ value-at turn 2 _ _ _ _ _ (omega arith) (omega arith) (omega arith) (omega arith) (omega arith) (omega arith) in
+    let e3 = c .four-steps4 .ensures ∙ value-at turn 3 _ _ _ _ _ (omega arith) (omega arith) (omega arith) (omega arith) (omega arith) (omega arith) in
+    (lanes-more (turn .before .loop .inv .0) (r .0) (r .1) _ _ _ _ e0 e1 e2 e3, omega arith, turn .before .loop .inv .2)
+
+returns : tie.Need-returns Inv-loop μ-loop
+returns c = lanes-all (c .before .loop .inv .0) (omega arith)
+
+pub half-steps-spec : {M : Type 1} → statement M
+half-steps-spec =
+    tie.close
+    (tie.spec
+    Inv-loop
+    μ-loop
+    mul-first
+    add-first
+    mul-to
+    mul-from
+    mul-x0
+    element-copy-out-x0
+    add-x1
+    mul-x1
+    element-copy-out-x1
+    add-x2
+    mul-x2
+    element-copy-out-x2
+    add-x3
+    mul-x3
+    element-copy-out-x3
+    loop-holds
+    add-p0
+    add-p1
+    add-p1-2
+    add-p2
+    add-p2-2
+    add-p3
+    add-p3-2
+    add-w0
+    mul-w0
+    element-copy-out-w0
+    add-w1
+    add-w1-2
+    mul-w1
+    element-copy-out-w1
+    add-w2
+    add-w2-2
+    mul-w2
+    element-copy-out-w2
+    add-w3
+    add-w3-2
+    mul-w3
+    element-copy-out-w3
+    mul-four-steps
+    array-read-four-steps
+    four-steps-requires
+    mul-four-steps-2
+    array-read-four-steps-2
+    four-steps-requires-2
+    mul-four-steps-3
+    array-read-four-steps-3
+    four-steps-requires-3
+    mul-four-steps-4
+    array-read-four-steps-4
+    four-steps-requires-4
+    mul-r
+    array-write-r
+    mul-r-2
+    array-write-r-2
+    mul-r-3
+    array-write-r-3
+    mul-r-4
+    array-write-r-4
+    add-i
+    loop-less
+    loop-again
+    returns)
