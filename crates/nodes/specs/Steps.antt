@@ -46,6 +46,13 @@ pub record FourSmall (x0 x1 x2 x3 : ℕ) : Type 0 where
   pub small2 : x2 ≤ 8191
   pub small3 : x3 ≤ 8191
 
+-- what is held for four values
+pub record FourHeld (held0 held1 held2 held3 y : ℕ) : Type 0 where
+  pub first : Held (held0 + y)
+  pub second : Held (held1 + y)
+  pub third : Held (held2 + y)
+  pub fourth : Held (held3 + y)
+
 -- a penalty plus 8,191
 pub record Raised (w : ℕ) : Type 0 where
   pub least : 8191 ≤ w

@@ -5,7 +5,7 @@ ghost use mathlib.Core.Path.{_≡_};
 ghost use Prim.Native.Nat.{ℕ, _+_, _*_, _≤_, _<_};
 ghost use lib.ListN.{length, getD};
 ghost use Rattle.nodes.specs.Parts.{Small, checkFrom};
-ghost use Rattle.nodes.specs.Steps.{step, fourSteps, stepsAt, columnTo, Held, Raised, FourSmall, StepsGiven, Mapped, lowered};
+ghost use Rattle.nodes.specs.Steps.{step, fourSteps, stepsAt, columnTo, Held, FourHeld, Raised, FourSmall, StepsGiven, Mapped, lowered};
 
 // One step for one value: from what is held at the value before, with penalty y, to the value with penalty x, which gives w. The comparison is one of
 // signed numbers: the compiler then takes eight minima in one instruction.
@@ -43,6 +43,79 @@ fn four_steps(
     step(held2, x2, x3, w3)
 }
 
+// A number for each of four blocks.
+struct Lane {
+    block0: u16,
+    block1: u16,
+    block2: u16,
+    block3: u16,
+}
+
+// Four steps for four values, one of each block. They are compared with the same four numbers, each block with them in another order.
+fn lane_steps(held: Lane, y: u16, x0: u16, x1: u16, x2: u16, x3: u16, w: Lane) -> Lane
+    requires { ⌜ FourHeld (held .block0) (held .block1) (held .block2) (held .block3) y × FourSmall x0 x1 x2 x3
+        × Raised (w .block0) × Raised (w .block1) × Raised (w .block2) × Raised (w .block3) ⌝ }
+    ensures { λ r. ⌜ (r .block0 ≡ fourSteps y x0 x1 x2 x3 (w .block0) (w .block1) (w .block2) (w .block3) (held .block0))
+        × (r .block1 ≡ fourSteps y x0 x1 x2 x3 (w .block1) (w .block0) (w .block3) (w .block2) (held .block1))
+        × (r .block2 ≡ fourSteps y x0 x1 x2 x3 (w .block2) (w .block3) (w .block0) (w .block1) (held .block2))
+        × (r .block3 ≡ fourSteps y x0 x1 x2 x3 (w .block3) (w .block2) (w .block1) (w .block0) (held .block3)) ⌝ }
+{
+    let block0 = four_steps(
+        held.block0,
+        y,
+        x0,
+        x1,
+        x2,
+        x3,
+        w.block0,
+        w.block1,
+        w.block2,
+        w.block3,
+    );
+    let block1 = four_steps(
+        held.block1,
+        y,
+        x0,
+        x1,
+        x2,
+        x3,
+        w.block1,
+        w.block0,
+        w.block3,
+        w.block2,
+    );
+    let block2 = four_steps(
+        held.block2,
+        y,
+        x0,
+        x1,
+        x2,
+        x3,
+        w.block2,
+        w.block3,
+        w.block0,
+        w.block1,
+    );
+    let block3 = four_steps(
+        held.block3,
+        y,
+        x0,
+        x1,
+        x2,
+        x3,
+        w.block3,
+        w.block2,
+        w.block1,
+        w.block0,
+    );
+    Lane {
+        block0,
+        block1,
+        block2,
+        block3,
+    }
+}
+
 // Steps 4 q to 4 q + 3 for the 32 values of one half, in four blocks of eight. The four parts of a copy that they are compared with are the same for
 // each block, in another order: so each part is read once, and the compiler works on eight neighbours at a time.
 fn half_steps(
@@ -70,18 +143,31 @@ fn half_steps(
         let p1 = to + 8 + i;
         let p2 = to + 16 + i;
         let p3 = to + 24 + i;
+        let h0 = r[p0];
+        let h1 = r[p1];
+        let h2 = r[p2];
+        let h3 = r[p3];
         let w0 = copies[from + i];
         let w1 = copies[from + 8 + i];
         let w2 = copies[from + 16 + i];
         let w3 = copies[from + 24 + i];
-        let a0 = four_steps(r[p0], y, x0, x1, x2, x3, w0, w1, w2, w3);
-        let a1 = four_steps(r[p1], y, x0, x1, x2, x3, w1, w0, w3, w2);
-        let a2 = four_steps(r[p2], y, x0, x1, x2, x3, w2, w3, w0, w1);
-        let a3 = four_steps(r[p3], y, x0, x1, x2, x3, w3, w2, w1, w0);
-        r[p0] = a0;
-        r[p1] = a1;
-        r[p2] = a2;
-        r[p3] = a3;
+        let held_now = Lane {
+            block0: h0,
+            block1: h1,
+            block2: h2,
+            block3: h3,
+        };
+        let compared = Lane {
+            block0: w0,
+            block1: w1,
+            block2: w2,
+            block3: w3,
+        };
+        let next = lane_steps(held_now, y, x0, x1, x2, x3, compared);
+        r[p0] = next.block0;
+        r[p1] = next.block1;
+        r[p2] = next.block2;
+        r[p3] = next.block3;
         i += 1;
     }
     r

@@ -6,7 +6,7 @@ use mathlib.Core.Path.{_≡_, refl, sym, _∙_, subst}
 use lib.Bits.{bitXor, xor-lt}
 use lib.ListN.{getD}
 use Rattle.gf64.specs.Field.{_⊕_}
-use Rattle.nodes.specs.Steps.{Held, Raised, FourSmall, fourSteps, sourceOf, firstOf, stepsAt}
+use Rattle.nodes.specs.Steps.{Held, FourHeld, Raised, FourSmall, fourSteps, sourceOf, firstOf, stepsAt}
 use Rattle.nodes.proofs.StepLaws.{LanesMapped, lanes-none, lanes-more, lanes-all, source-is, steps-are}
 use Rattle.nodes.proofs.steps.half_steps.Statement.{statement}
 use Rattle.nodes.proofs.steps.half_steps.Tie as tie
@@ -136,6 +136,30 @@ add-p3 c = search needs
 add-p3-2 : tie.Need-add-p3-2 Inv-loop μ-loop
 add-p3-2 c = search needs
 
+mul-h0 : tie.Need-mul-h0 Inv-loop μ-loop
+mul-h0 c = search needs
+
+array-read-h0 : tie.Need-array-read-h0 Inv-loop μ-loop
+array-read-h0 c = search needs
+
+mul-h1 : tie.Need-mul-h1 Inv-loop μ-loop
+mul-h1 c = search needs
+
+array-read-h1 : tie.Need-array-read-h1 Inv-loop μ-loop
+array-read-h1 c = search needs
+
+mul-h2 : tie.Need-mul-h2 Inv-loop μ-loop
+mul-h2 c = search needs
+
+array-read-h2 : tie.Need-array-read-h2 Inv-loop μ-loop
+array-read-h2 c = search needs
+
+mul-h3 : tie.Need-mul-h3 Inv-loop μ-loop
+mul-h3 c = search needs
+
+array-read-h3 : tie.Need-array-read-h3 Inv-loop μ-loop
+array-read-h3 c = search needs
+
 add-w0 : tie.Need-add-w0 Inv-loop μ-loop
 add-w0 c = search needs
 
@@ -181,89 +205,56 @@ mul-w3 c = search needs
 element-copy-out-w3 : tie.Need-element-copy-out-w3 Inv-loop μ-loop
 element-copy-out-w3 c = search needs
 
-mul-four-steps : tie.Need-mul-four-steps Inv-loop μ-loop
-mul-four-steps c = search needs
-
-array-read-four-steps : tie.Need-array-read-four-steps Inv-loop μ-loop
-array-read-four-steps c = search needs
-
-four-steps-requires : tie.Need-four-steps-requires Inv-loop μ-loop
-four-steps-requires c κs =
-    let turn = c .before .before .before .before in
-    (held-at turn _ (omega arith) (omega arith) (omega arith), small-at (entry (turn .before)), raised-at turn _ (omega arith), raised-at turn _ (omega arith), raised-at turn _ (omega arith), raised-at turn _ (omega arith))
-
-mul-four-steps-2 : tie.Need-mul-four-steps-2 Inv-loop μ-loop
-mul-four-steps-2 c = search needs
-
-array-read-four-steps-2 : tie.Need-array-read-four-steps-2 Inv-loop μ-loop
-array-read-four-steps-2 c = search needs
-
-four-steps-requires-2 : tie.Need-four-steps-requires-2 Inv-loop μ-loop
-four-steps-requires-2 c κs =
-    let turn = c .before .before .before .before .before in
-    (held-at turn _ (omega arith) (omega arith) (omega arith), small-at (entry (turn .before)), raised-at turn _ (omega arith), raised-at turn _ (omega arith), raised-at turn _ (omega arith), raised-at turn _ (omega arith))
-
-mul-four-steps-3 : tie.Need-mul-four-steps-3 Inv-loop μ-loop
-mul-four-steps-3 c = search needs
-
-array-read-four-steps-3 : tie.Need-array-read-four-steps-3 Inv-loop μ-loop
-array-read-four-steps-3 c = search needs
-
-four-steps-requires-3 : tie.Need-four-steps-requires-3 Inv-loop μ-loop
-four-steps-requires-3 c κs =
-    let turn = c .before .before .before .before .before .before in
-    (held-at turn _ (omega arith) (omega arith) (omega arith), small-at (entry (turn .before)), raised-at turn _ (omega arith), raised-at turn _ (omega arith), raised-at turn _ (omega arith), raised-at turn _ (omega arith))
-
-mul-four-steps-4 : tie.Need-mul-four-steps-4 Inv-loop μ-loop
-mul-four-steps-4 c = search needs
-
-array-read-four-steps-4 : tie.Need-array-read-four-steps-4 Inv-loop μ-loop
-array-read-four-steps-4 c = search needs
-
-four-steps-requires-4 : tie.Need-four-steps-requires-4 Inv-loop μ-loop
-four-steps-requires-4 c κs =
-    let turn = c .before .before .before .before .before .before .before in
-    (held-at turn _ (omega arith) (omega arith) (omega arith), small-at (entry (turn .before)), raised-at turn _ (omega arith), raised-at turn _ (omega arith), raised-at turn _ (omega arith), raised-at turn _ (omega arith))
+lane-steps-requires : tie.Need-lane-steps-requires Inv-loop μ-loop
+lane-steps-requires c κs =
+    let turn = c .before .before .before .before in (
+      record { first = held-at turn _ (omega arith) (omega arith) (omega arith); second = held-at turn _ (omega arith) (omega arith) (omega arith); third = held-at turn _ (omega arith) (omega arith) (omega arith); fourth = held-at turn _ (omega arith) (omega arith) (omega arith) },
+      small-at (entry (turn .before)),
+      raised-at turn _ (omega arith),
+      raised-at turn _ (omega arith),
+      raised-at turn _ (omega arith),
+      raised-at turn _ (omega arith),
+    )
 
 mul-r : tie.Need-mul-r Inv-loop μ-loop
-mul-r c = let r = room (c .before .before .before .before .before .before .before .before) in omega arith
+mul-r c = search needs
 
 array-write-r : tie.Need-array-write-r Inv-loop μ-loop
-array-write-r c = let r = room (c .before .before .before .before .before .before .before .before) in omega arith
+array-write-r c = search needs
 
 mul-r-2 : tie.Need-mul-r-2 Inv-loop μ-loop
-mul-r-2 c = let r = room (c .before .before .before .before .before .before .before .before) in omega arith
+mul-r-2 c = search needs
 
 array-write-r-2 : tie.Need-array-write-r-2 Inv-loop μ-loop
-array-write-r-2 c = let r = room (c .before .before .before .before .before .before .before .before) in omega arith
+array-write-r-2 c = search needs
 
 mul-r-3 : tie.Need-mul-r-3 Inv-loop μ-loop
-mul-r-3 c = let r = room (c .before .before .before .before .before .before .before .before) in omega arith
+mul-r-3 c = search needs
 
 array-write-r-3 : tie.Need-array-write-r-3 Inv-loop μ-loop
-array-write-r-3 c = let r = room (c .before .before .before .before .before .before .before .before) in omega arith
+array-write-r-3 c = search needs
 
 mul-r-4 : tie.Need-mul-r-4 Inv-loop μ-loop
-mul-r-4 c = let r = room (c .before .before .before .before .before .before .before .before) in omega arith
+mul-r-4 c = search needs
 
 array-write-r-4 : tie.Need-array-write-r-4 Inv-loop μ-loop
-array-write-r-4 c = let r = room (c .before .before .before .before .before .before .before .before) in omega arith
+array-write-r-4 c = search needs
 
 add-i : tie.Need-add-i Inv-loop μ-loop
-add-i c = let r = room (c .before .before .before .before .before .before .before .before) in omega arith
+add-i c = search needs
 
 loop-less : tie.Need-loop-less Inv-loop μ-loop
-loop-less c = let r = room (c .before .before .before .before .before .before .before .before) in omega arith
+loop-less c = search needs
 
 loop-again : tie.Need-loop-again Inv-loop μ-loop
 unfolding _⊕_
 loop-again c =
-    let turn = c .before .before .before .before .before .before .before .before in
+    let turn = c .before .before .before .before .before in
     let r = room turn in
-    let e0 = c .before .before .before .four-steps .ensures ∙ value-at turn 0 _ _ _ _ _ (omega arith) (omega arith) (omega arith) (omega arith) (omega arith) (omega arith) in
-    let e1 = c .before .before .four-steps2 .ensures ∙ value-at turn 1 _ _ _ _ _ (omega arith) (omega arith) (omega arith) (omega arith) (omega arith) (omega arith) in
-    let e2 = c .before .four-steps3 .ensures ∙ value-at turn 2 _ _ _ _ _ (omega arith) (omega arith) (omega arith) (omega arith) (omega arith) (omega arith) in
-    let e3 = c .four-steps4 .ensures ∙ value-at turn 3 _ _ _ _ _ (omega arith) (omega arith) (omega arith) (omega arith) (omega arith) (omega arith) in
+    let e0 = c .lane-steps .ensures .0 ∙ value-at turn 0 _ _ _ _ _ (omega arith) (omega arith) (omega arith) (omega arith) (omega arith) (omega arith) in
+    let e1 = c .lane-steps .ensures .1 ∙ value-at turn 1 _ _ _ _ _ (omega arith) (omega arith) (omega arith) (omega arith) (omega arith) (omega arith) in
+    let e2 = c .lane-steps .ensures .2 ∙ value-at turn 2 _ _ _ _ _ (omega arith) (omega arith) (omega arith) (omega arith) (omega arith) (omega arith) in
+    let e3 = c .lane-steps .ensures .3 ∙ value-at turn 3 _ _ _ _ _ (omega arith) (omega arith) (omega arith) (omega arith) (omega arith) (omega arith) in
     (lanes-more (turn .before .loop .inv .0) (r .0) (r .1) _ _ _ _ e0 e1 e2 e3, omega arith, turn .before .loop .inv .2)
 
 returns : tie.Need-returns Inv-loop μ-loop
@@ -298,6 +289,14 @@ half-steps-spec =
     add-p2-2
     add-p3
     add-p3-2
+    mul-h0
+    array-read-h0
+    mul-h1
+    array-read-h1
+    mul-h2
+    array-read-h2
+    mul-h3
+    array-read-h3
     add-w0
     mul-w0
     element-copy-out-w0
@@ -313,18 +312,7 @@ half-steps-spec =
     add-w3-2
     mul-w3
     element-copy-out-w3
-    mul-four-steps
-    array-read-four-steps
-    four-steps-requires
-    mul-four-steps-2
-    array-read-four-steps-2
-    four-steps-requires-2
-    mul-four-steps-3
-    array-read-four-steps-3
-    four-steps-requires-3
-    mul-four-steps-4
-    array-read-four-steps-4
-    four-steps-requires-4
+    lane-steps-requires
     mul-r
     array-write-r
     mul-r-2
