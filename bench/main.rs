@@ -124,8 +124,8 @@ const COUNT: usize = 5;
 /// The implementations, in the order of the tables' columns.
 static MAKERS: [Maker; COUNT] = [
     Maker::whole("proved", zithejo_encode, zithejo_demap, zithejo_decode),
-    Maker::whole("plain", plain::encode, plain::demap, plain::decode),
-    Maker::decoder("plain-32-bit", plain::decode_wide),
+    Maker::whole("plain", plain::encode, plain::demap, plain::decode_wide),
+    Maker::decoder("plain-16-bit", plain::decode),
     Maker::whole("blocked", blocked_encode, blocked_demap, blocked_decode),
     Maker::decoder("blocked-differences", blocked_decode_differences),
 ];

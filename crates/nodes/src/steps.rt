@@ -45,75 +45,26 @@ fn four_steps(
 
 // A number for each of four blocks.
 struct Lane {
-    block0: u16,
-    block1: u16,
-    block2: u16,
-    block3: u16,
+    b0: u16,
+    b1: u16,
+    b2: u16,
+    b3: u16,
 }
 
 // Four steps for four values, one of each block. They are compared with the same four numbers, each block with them in another order.
 fn lane_steps(held: Lane, y: u16, x0: u16, x1: u16, x2: u16, x3: u16, w: Lane) -> Lane
-    requires { ⌜ FourHeld (held .block0) (held .block1) (held .block2) (held .block3) y × FourSmall x0 x1 x2 x3
-        × Raised (w .block0) × Raised (w .block1) × Raised (w .block2) × Raised (w .block3) ⌝ }
-    ensures { λ r. ⌜ (r .block0 ≡ fourSteps y x0 x1 x2 x3 (w .block0) (w .block1) (w .block2) (w .block3) (held .block0))
-        × (r .block1 ≡ fourSteps y x0 x1 x2 x3 (w .block1) (w .block0) (w .block3) (w .block2) (held .block1))
-        × (r .block2 ≡ fourSteps y x0 x1 x2 x3 (w .block2) (w .block3) (w .block0) (w .block1) (held .block2))
-        × (r .block3 ≡ fourSteps y x0 x1 x2 x3 (w .block3) (w .block2) (w .block1) (w .block0) (held .block3)) ⌝ }
+    requires { ⌜ FourHeld (held .b0) (held .b1) (held .b2) (held .b3) y × FourSmall x0 x1 x2 x3
+        × Raised (w .b0) × Raised (w .b1) × Raised (w .b2) × Raised (w .b3) ⌝ }
+    ensures { λ r. ⌜ (r .b0 ≡ fourSteps y x0 x1 x2 x3 (w .b0) (w .b1) (w .b2) (w .b3) (held .b0))
+        × (r .b1 ≡ fourSteps y x0 x1 x2 x3 (w .b1) (w .b0) (w .b3) (w .b2) (held .b1))
+        × (r .b2 ≡ fourSteps y x0 x1 x2 x3 (w .b2) (w .b3) (w .b0) (w .b1) (held .b2))
+        × (r .b3 ≡ fourSteps y x0 x1 x2 x3 (w .b3) (w .b2) (w .b1) (w .b0) (held .b3)) ⌝ }
 {
-    let block0 = four_steps(
-        held.block0,
-        y,
-        x0,
-        x1,
-        x2,
-        x3,
-        w.block0,
-        w.block1,
-        w.block2,
-        w.block3,
-    );
-    let block1 = four_steps(
-        held.block1,
-        y,
-        x0,
-        x1,
-        x2,
-        x3,
-        w.block1,
-        w.block0,
-        w.block3,
-        w.block2,
-    );
-    let block2 = four_steps(
-        held.block2,
-        y,
-        x0,
-        x1,
-        x2,
-        x3,
-        w.block2,
-        w.block3,
-        w.block0,
-        w.block1,
-    );
-    let block3 = four_steps(
-        held.block3,
-        y,
-        x0,
-        x1,
-        x2,
-        x3,
-        w.block3,
-        w.block2,
-        w.block1,
-        w.block0,
-    );
-    Lane {
-        block0,
-        block1,
-        block2,
-        block3,
-    }
+    let b0 = four_steps(held.b0, y, x0, x1, x2, x3, w.b0, w.b1, w.b2, w.b3);
+    let b1 = four_steps(held.b1, y, x0, x1, x2, x3, w.b1, w.b0, w.b3, w.b2);
+    let b2 = four_steps(held.b2, y, x0, x1, x2, x3, w.b2, w.b3, w.b0, w.b1);
+    let b3 = four_steps(held.b3, y, x0, x1, x2, x3, w.b3, w.b2, w.b1, w.b0);
+    Lane { b0, b1, b2, b3 }
 }
 
 // Steps 4 q to 4 q + 3 for the 32 values of one half, in four blocks of eight. The four parts of a copy that they are compared with are the same for
@@ -143,31 +94,21 @@ fn half_steps(
         let p1 = to + 8 + i;
         let p2 = to + 16 + i;
         let p3 = to + 24 + i;
-        let h0 = r[p0];
-        let h1 = r[p1];
-        let h2 = r[p2];
-        let h3 = r[p3];
-        let w0 = copies[from + i];
-        let w1 = copies[from + 8 + i];
-        let w2 = copies[from + 16 + i];
-        let w3 = copies[from + 24 + i];
-        let held_now = Lane {
-            block0: h0,
-            block1: h1,
-            block2: h2,
-            block3: h3,
-        };
-        let compared = Lane {
-            block0: w0,
-            block1: w1,
-            block2: w2,
-            block3: w3,
-        };
+        let b0 = r[p0];
+        let b1 = r[p1];
+        let b2 = r[p2];
+        let b3 = r[p3];
+        let held_now = Lane { b0, b1, b2, b3 };
+        let b0 = copies[from + i];
+        let b1 = copies[from + 8 + i];
+        let b2 = copies[from + 16 + i];
+        let b3 = copies[from + 24 + i];
+        let compared = Lane { b0, b1, b2, b3 };
         let next = lane_steps(held_now, y, x0, x1, x2, x3, compared);
-        r[p0] = next.block0;
-        r[p1] = next.block1;
-        r[p2] = next.block2;
-        r[p3] = next.block3;
+        r[p0] = next.b0;
+        r[p1] = next.b1;
+        r[p2] = next.b2;
+        r[p3] = next.b3;
         i += 1;
     }
     r

@@ -136,74 +136,74 @@ add-p3 c = search needs
 add-p3-2 : tie.Need-add-p3-2 Inv-loop μ-loop
 add-p3-2 c = search needs
 
-mul-h0 : tie.Need-mul-h0 Inv-loop μ-loop
-mul-h0 c = search needs
+mul-b0 : tie.Need-mul-b0 Inv-loop μ-loop
+mul-b0 c = search needs
 
-array-read-h0 : tie.Need-array-read-h0 Inv-loop μ-loop
-array-read-h0 c = search needs
+array-read-b0 : tie.Need-array-read-b0 Inv-loop μ-loop
+array-read-b0 c = search needs
 
-mul-h1 : tie.Need-mul-h1 Inv-loop μ-loop
-mul-h1 c = search needs
+mul-b1 : tie.Need-mul-b1 Inv-loop μ-loop
+mul-b1 c = search needs
 
-array-read-h1 : tie.Need-array-read-h1 Inv-loop μ-loop
-array-read-h1 c = search needs
+array-read-b1 : tie.Need-array-read-b1 Inv-loop μ-loop
+array-read-b1 c = search needs
 
-mul-h2 : tie.Need-mul-h2 Inv-loop μ-loop
-mul-h2 c = search needs
+mul-b2 : tie.Need-mul-b2 Inv-loop μ-loop
+mul-b2 c = search needs
 
-array-read-h2 : tie.Need-array-read-h2 Inv-loop μ-loop
-array-read-h2 c = search needs
+array-read-b2 : tie.Need-array-read-b2 Inv-loop μ-loop
+array-read-b2 c = search needs
 
-mul-h3 : tie.Need-mul-h3 Inv-loop μ-loop
-mul-h3 c = search needs
+mul-b3 : tie.Need-mul-b3 Inv-loop μ-loop
+mul-b3 c = search needs
 
-array-read-h3 : tie.Need-array-read-h3 Inv-loop μ-loop
-array-read-h3 c = search needs
+array-read-b3 : tie.Need-array-read-b3 Inv-loop μ-loop
+array-read-b3 c = search needs
 
-add-w0 : tie.Need-add-w0 Inv-loop μ-loop
-add-w0 c = search needs
+add-b0 : tie.Need-add-b0 Inv-loop μ-loop
+add-b0 c = search needs
 
-mul-w0 : tie.Need-mul-w0 Inv-loop μ-loop
-mul-w0 c = search needs
+mul-b0-2 : tie.Need-mul-b0-2 Inv-loop μ-loop
+mul-b0-2 c = search needs
 
-element-copy-out-w0 : tie.Need-element-copy-out-w0 Inv-loop μ-loop
-element-copy-out-w0 c = search needs
+element-copy-out-b0 : tie.Need-element-copy-out-b0 Inv-loop μ-loop
+element-copy-out-b0 c = search needs
 
-add-w1 : tie.Need-add-w1 Inv-loop μ-loop
-add-w1 c = search needs
+add-b1 : tie.Need-add-b1 Inv-loop μ-loop
+add-b1 c = search needs
 
-add-w1-2 : tie.Need-add-w1-2 Inv-loop μ-loop
-add-w1-2 c = search needs
+add-b1-2 : tie.Need-add-b1-2 Inv-loop μ-loop
+add-b1-2 c = search needs
 
-mul-w1 : tie.Need-mul-w1 Inv-loop μ-loop
-mul-w1 c = search needs
+mul-b1-2 : tie.Need-mul-b1-2 Inv-loop μ-loop
+mul-b1-2 c = search needs
 
-element-copy-out-w1 : tie.Need-element-copy-out-w1 Inv-loop μ-loop
-element-copy-out-w1 c = search needs
+element-copy-out-b1 : tie.Need-element-copy-out-b1 Inv-loop μ-loop
+element-copy-out-b1 c = search needs
 
-add-w2 : tie.Need-add-w2 Inv-loop μ-loop
-add-w2 c = search needs
+add-b2 : tie.Need-add-b2 Inv-loop μ-loop
+add-b2 c = search needs
 
-add-w2-2 : tie.Need-add-w2-2 Inv-loop μ-loop
-add-w2-2 c = search needs
+add-b2-2 : tie.Need-add-b2-2 Inv-loop μ-loop
+add-b2-2 c = search needs
 
-mul-w2 : tie.Need-mul-w2 Inv-loop μ-loop
-mul-w2 c = search needs
+mul-b2-2 : tie.Need-mul-b2-2 Inv-loop μ-loop
+mul-b2-2 c = search needs
 
-element-copy-out-w2 : tie.Need-element-copy-out-w2 Inv-loop μ-loop
-element-copy-out-w2 c = search needs
+element-copy-out-b2 : tie.Need-element-copy-out-b2 Inv-loop μ-loop
+element-copy-out-b2 c = search needs
 
-add-w3 : tie.Need-add-w3 Inv-loop μ-loop
-add-w3 c = search needs
+add-b3 : tie.Need-add-b3 Inv-loop μ-loop
+add-b3 c = search needs
 
-add-w3-2 : tie.Need-add-w3-2 Inv-loop μ-loop
-add-w3-2 c = search needs
+add-b3-2 : tie.Need-add-b3-2 Inv-loop μ-loop
+add-b3-2 c = search needs
 
-mul-w3 : tie.Need-mul-w3 Inv-loop μ-loop
-mul-w3 c = search needs
+mul-b3-2 : tie.Need-mul-b3-2 Inv-loop μ-loop
+mul-b3-2 c = search needs
 
-element-copy-out-w3 : tie.Need-element-copy-out-w3 Inv-loop μ-loop
-element-copy-out-w3 c = search needs
+element-copy-out-b3 : tie.Need-element-copy-out-b3 Inv-loop μ-loop
+element-copy-out-b3 c = search needs
 
 lane-steps-requires : tie.Need-lane-steps-requires Inv-loop μ-loop
 lane-steps-requires c κs =
@@ -289,29 +289,29 @@ half-steps-spec =
     add-p2-2
     add-p3
     add-p3-2
-    mul-h0
-    array-read-h0
-    mul-h1
-    array-read-h1
-    mul-h2
-    array-read-h2
-    mul-h3
-    array-read-h3
-    add-w0
-    mul-w0
-    element-copy-out-w0
-    add-w1
-    add-w1-2
-    mul-w1
-    element-copy-out-w1
-    add-w2
-    add-w2-2
-    mul-w2
-    element-copy-out-w2
-    add-w3
-    add-w3-2
-    mul-w3
-    element-copy-out-w3
+    mul-b0
+    array-read-b0
+    mul-b1
+    array-read-b1
+    mul-b2
+    array-read-b2
+    mul-b3
+    array-read-b3
+    add-b0
+    mul-b0-2
+    element-copy-out-b0
+    add-b1
+    add-b1-2
+    mul-b1-2
+    element-copy-out-b1
+    add-b2
+    add-b2-2
+    mul-b2-2
+    element-copy-out-b2
+    add-b3
+    add-b3-2
+    mul-b3-2
+    element-copy-out-b3
     lane-steps-requires
     mul-r
     array-write-r
