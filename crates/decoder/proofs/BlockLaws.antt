@@ -9,7 +9,7 @@ use lib.ListN.{length, getD, take, drop, length-drop, List·getD-append}
 use lib.Seq.{length-take-le}
 use Rattle.vector.specs.Vector.{vectorAt, AtMost}
 use Rattle.gf64.specs.Field.{NonZero}
-use Rattle.polar.specs.Code.{kindOf, Coefficients}
+use Rattle.polar_code.specs.Code.{kindOf, Coefficients}
 use Rattle.polar.specs.Tree.{All, leaves, treeOf, here, at, number}
 use Rattle.polar.specs.Halves.{coefsAt}
 use Rattle.polar.specs.Parts.{Block}

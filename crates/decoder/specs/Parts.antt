@@ -4,7 +4,7 @@ use mathlib.Core.Path.{_≡_}
 use mathlib.Core.List.{List, [], _∷_, _++_}
 use lib.ListN.{length, getD, drop}
 use Rattle.vector.specs.Vector.{vectorAt, sumTo, HasZero, AtMost}
-use Rattle.polar.specs.Code.{kindOf, Coefficients}
+use Rattle.polar_code.specs.Code.{kindOf, Coefficients}
 use Rattle.polar.specs.Tree.{leaves, treeOf}
 use Rattle.polar.specs.Halves.{coefsAt}
 use Rattle.polar.specs.Parts.{Block}

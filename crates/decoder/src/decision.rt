@@ -1,6 +1,6 @@
 // The decision at one place, from the 64 penalties held for it.
 ghost use mathlib.Core.Path.{_≡_};
-ghost use Rattle.polar.specs.Code.{kindOf};
+ghost use Rattle.polar_code.specs.Code.{kindOf};
 ghost use Rattle.scms.specs.Decision.{smallest, decision};
 
 // The smallest value whose penalty is least: the first at which the least is found.

@@ -21,8 +21,8 @@ use Rattle.refusal.proofs.Within.{not-both, above-outside, inside-within, withi
 use Rattle.vector.specs.Vector.{vectorAt}
 use Rattle.vector.specs.Frame.{IsFrame}
 use Rattle.vector.proofs.SliceLaws.{vector-long, vector-entry}
-use Rattle.polar.specs.Code.{IsCode}
-use Rattle.polar.proofs.CodeLaws.{rows-code, code-sizes, code-bytes}
+use Rattle.polar_code.specs.Code.{IsCode}
+use Rattle.polar_code.proofs.CodeLaws.{rows-code, code-sizes, code-bytes}
 use Rattle.decoder_refusal.specs.Refusals.{noZero, greatest, llrsRow, zerosRow, sizeTable, contentTable, decodeTable, decodeRefusal, Decodable}
 
 -- ---- lists with no 0

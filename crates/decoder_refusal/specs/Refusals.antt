@@ -10,7 +10,7 @@ use Rattle.refusal.specs.Tests.{outside, anyOutside, anyTo, Within}
 use Rattle.refusal.specs.Rows.{lengthRow, qcRow}
 use Rattle.vector.specs.Vector.{vectorAt}
 use Rattle.vector.specs.Frame.{IsFrame}
-use Rattle.polar.specs.Code.{layersRow, mapRow, emptyRow, coefsRow, IsCode}
+use Rattle.polar_code.specs.Code.{layersRow, mapRow, emptyRow, coefsRow, IsCode}
 
 -- no number of the list is 0
 unfoldable pub noZero : List ℕ → Bool

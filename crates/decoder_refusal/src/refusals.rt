@@ -109,7 +109,7 @@ fn content_refusal(map: &[u8], coefs: &[u8], qc: u32, qm: u32, frame: &[u16]) ->
     if refusal::is_outside(qm, qc, 13) {
         return 3;
     }
-    let by_code = polar::code_refusal(map, coefs);
+    let by_code = polar_code::code_refusal(map, coefs);
     if by_code != 0 {
         return by_code;
     }

@@ -3,7 +3,7 @@ use Prim.Native.Nat.{ℕ, _*_, _/_, _^_, _≤_}
 use mathlib.Core.Path.{_≡_}
 use mathlib.Core.List.{List}
 use lib.ListN.{length, take}
-use Rattle.polar.specs.Code.{IsCode}
+use Rattle.polar_code.specs.Code.{IsCode}
 use Rattle.files.specs.Printed.{Penalties}
 
 -- what `run_code` is given: a code at the start of two buffers

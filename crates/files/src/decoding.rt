@@ -5,7 +5,7 @@ use crate::print::print_refusal;
 use decoder::Answer;
 ghost use mathlib.Core.Path.{_≡_};
 ghost use Rattle.decoder.specs.Decode.{returned};
-ghost use Rattle.polar.specs.Code.{IsCode};
+ghost use Rattle.polar_code.specs.Code.{IsCode};
 ghost use Rattle.files.specs.Printed.{FrameNumber};
 ghost use Rattle.files.specs.Parts.{FrameRoom, Given, Taken, Roomy, Lent};
 

@@ -35,8 +35,8 @@ fn run_code(n: usize, map: &[u8], coefs: &[u8]) -> u8
     requires { ⌜ CodeRead n (now map) (now coefs) ⌝ }
     ensures { λ r. ⌜ FrameNumber r ⌝ }
 {
-    let size = polar::place_count(n);
-    let count = polar::kernel_count(n);
+    let size = polar_code::place_count(n);
+    let count = polar_code::kernel_count(n);
     run_frame(n, &map[..size], &coefs[..count])
 }
 

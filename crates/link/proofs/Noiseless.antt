@@ -9,7 +9,7 @@ use lib.IntN.{ℤ}
 use lib.ListN.{getD}
 use lib.Pow.{pow-mono, pow-pos}
 use Rattle.vector.specs.Vector.{vectorAt, OnlyZero}
-use Rattle.polar.specs.Code.{IsWord}
+use Rattle.polar_code.specs.Code.{IsWord}
 use Rattle.polar.specs.Encode.{wordBefore, codewordOf, Encodable}
 use Rattle.polar.specs.Message.{messageOf}
 use Rattle.polar.proofs.MessageLaws.{word-frozen, message-back}

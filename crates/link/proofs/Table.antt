@@ -12,7 +12,7 @@ use Rattle.refusal.specs.Tests.{outside, anyOutside, anyTo, unequal}
 use Rattle.refusal.proofs.Laws.{here, later, finds-refusal}
 use Rattle.vector.specs.Vector.{tabulate, vectorAt, joined, sumTo, leastTo, least, lessLeast}
 use Rattle.gf64.specs.Field.{_⊕_, _⊙_, timesA, productBits, lowSix}
-use Rattle.polar.specs.Code.{kindOf, messageCount, messagePlaces}
+use Rattle.polar_code.specs.Code.{kindOf, messageCount, messagePlaces}
 use Rattle.polar.specs.Transform.{theta, phi, coefficient, atKernel, atKernels, atLayer, layer, layers, transform}
 use Rattle.polar.specs.Encode.{symbolAt, restAfter, wordBefore, codewordOf}
 use Rattle.polar.specs.Message.{withPlace, messageOf}

@@ -7,7 +7,7 @@ use lib.IntN.{ℤ}
 use lib.ListN.{length, getD}
 use Rattle.refusal.specs.Tests.{Within}
 use Rattle.vector.specs.Vector.{vectorAt}
-use Rattle.polar.specs.Code.{messagePlaces, IsCode}
+use Rattle.polar_code.specs.Code.{messagePlaces, IsCode}
 use Rattle.polar.specs.Encode.{wordBefore, codewordOf}
 use Rattle.polar.specs.Message.{messageOf}
 use Rattle.ccsk.specs.Chips.{turned}

@@ -7,7 +7,7 @@ use lib.IntN.{ℤ, pos}
 use lib.ListN.{length, getD, take}
 use Rattle.refusal.specs.Table.{OneOf}
 use Rattle.refusal.specs.Tests.{Within}
-use Rattle.polar.specs.Code.{IsCode}
+use Rattle.polar_code.specs.Code.{IsCode}
 use Rattle.polar.specs.Encode.{Encoded}
 use Rattle.ccsk.specs.Chips.{turned}
 use Rattle.ccsk.specs.Spread.{spreadRefusal, Spread}

@@ -6,10 +6,11 @@ use native.Mathlib.Numerals.{add-one}
 use native.Mathlib.Omega.{arith}
 use lib.ListN.{length, getD, take, drop, set, length-set}
 use lib.Seq.{drop-cons, take-suc-set, append-snoc}
-use Rattle.polar.specs.Code.{Kind, message, frozen, kindOf, messageCount, messagePlaces}
+use Rattle.polar_code.specs.Code.{Kind, message, frozen, kindOf, messageCount, messagePlaces}
 use Rattle.polar.specs.Encode.{symbolAt, restAfter}
 use Rattle.polar.specs.Message.{withPlace, messageOf}
-use Rattle.polar.proofs.MessageLaws.{places-from, next-placed, next-left}
+use Rattle.polar_code.proofs.MapLaws.{places-from}
+use Rattle.polar.proofs.MessageLaws.{next-placed, next-left}
 
 -- how far reading has come at place j: `next` symbols of the message are read
 pub record ReadTo (map word before read : List ℕ) (next j : ℕ) : Type 0 where

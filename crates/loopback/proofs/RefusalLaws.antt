@@ -9,8 +9,8 @@ use lib.ListN.{length, drop}
 use Rattle.refusal.specs.Table.{Row, refusalOf, NoneFits, Numbered}
 use Rattle.refusal.proofs.Laws.{first-refused, first-taken, both-taken, taken-both}
 use Rattle.refusal.proofs.Within.{inside-within, within-inside, none-within, within-none, false-equal, equal-false}
-use Rattle.polar.specs.Code.{messagePlaces}
-use Rattle.polar.proofs.CodeLaws.{rows-code, code-sizes, code-bytes}
+use Rattle.polar_code.specs.Code.{messagePlaces}
+use Rattle.polar_code.proofs.CodeLaws.{rows-code, code-sizes, code-bytes}
 use Rattle.ccsk.specs.Chips.{turned}
 use Rattle.loopback.specs.Refusals.{sizeTable, contentTable, tripRefusal, TripInput}
 

@@ -4,7 +4,7 @@ use mathlib.Core.Path.{_≡_}
 use mathlib.Core.List.{List}
 use lib.IntN.{ℤ}
 use lib.ListN.{length}
-use Rattle.polar.specs.Code.{messagePlaces}
+use Rattle.polar_code.specs.Code.{messagePlaces}
 use Rattle.link.specs.Noiseless.{Sendable}
 
 -- what `write_samples` is given: room for 64 samples a number, and an amplitude that fits in a signed byte

@@ -7,7 +7,7 @@ use lib.ListN.{length}
 use Rattle.refusal.specs.Table.{Row, refusalOf}
 use Rattle.refusal.specs.Tests.{outside}
 use Rattle.refusal.specs.Rows.{lengthRow, qcRow, symbolsRow}
-use Rattle.polar.specs.Code.{messagePlaces, layersRow, mapRow, emptyRow, coefsRow}
+use Rattle.polar_code.specs.Code.{messagePlaces, layersRow, mapRow, emptyRow, coefsRow}
 use Rattle.ccsk.specs.Chips.{baseRow}
 use Rattle.ccsk.specs.Demap.{gainRow}
 use Rattle.decoder_refusal.specs.Refusals.{qmRow}

@@ -31,7 +31,7 @@ fn size_refusal(
     if coefs.len() != n * (size / 2) {
         return 2;
     }
-    let places = polar::message_places(map);
+    let places = polar_code::message_places(map);
     if message.len() != places {
         return 2;
     }
@@ -76,7 +76,7 @@ fn content_refusal(
     if refusal::is_outside(qm, qc, 13) {
         return 3;
     }
-    let by_code = polar::code_refusal(map, coefs);
+    let by_code = polar_code::code_refusal(map, coefs);
     if by_code != 0 {
         return by_code;
     }

@@ -10,7 +10,7 @@ use lib.Seq.{getD-set-same, getD-set-other}
 use Rattle.vector.specs.Vector.{leastTo}
 use Rattle.vector.proofs.Laws.{Filled, fill-more}
 use Rattle.gf64.specs.Field.{_⊕_}
-use Rattle.nodes.specs.Steps.{step, fourSteps, sourceOf, firstOf, stepsAt, Held, Raised, Mapped}
+use Rattle.nodes.specs.Steps.{step, fourSteps, sourceOf, firstOf, stepsAt, Held, FourHeld, Raised, StepsGiven, Mapped}
 
 -- the smaller of two numbers, by cases
 pub min-cases : (a b : ℕ) → Dec (a < b) → (P : ℕ → Type 0) → (a ≤ b → P a) → (b ≤ a → P b) → P (min a b)
@@ -214,3 +214,41 @@ module _ {f : ℕ → ℕ → ℕ} {half n : ℕ} {before after : List ℕ} (h :
       go : (b : ℕ) → b / 32 ≡ half → b % 8 < n + 1 → Dec (b % 8 < n) → getD after4 b 0 ≡ f b (getD before b 0)
       go b p q (yes t) = none-of b (λ z s. absurd (omega arith)) ∙ h .done b p t
       go b p q (no t) = block b p (omega arith) (decLt (b / 8 % 4) 1) (decLt (b / 8 % 4) 2) (decLt (b / 8 % 4) 3)
+
+-- a turn of the loop that takes the steps of one half: four values, the one at i of each block
+module _ {before after : List ℕ} {half i : ℕ} (copies x : List ℕ) (q y : ℕ) (h : LanesMapped (stepsAt copies x q y) half i before after) (lh : half < 2) (li : i < 8) where
+  -- what is held for each of them is what it was
+  pub lanes-held : ((b : ℕ) → b < 64 → 32 * half ≤ b → Held (getD before b 0 + y))
+      → FourHeld (getD after (32 * half + i) 0) (getD after (32 * half + 8 + i) 0) (getD after (32 * half + 16 + i) 0) (getD after (32 * half + 24 + i) 0) y
+  lanes-held g =
+      record { first = go _ (omega arith) (omega arith) (omega arith); second = go _ (omega arith) (omega arith) (omega arith); third = go _ (omega arith) (omega arith) (omega arith); fourth = go _ (omega arith) (omega arith) (omega arith) }
+    where
+      go : (b : ℕ) → b / 32 ≡ half → b % 8 ≡ i → b < 64 → Held (getD after b 0 + y)
+      go b p s l = subst (λ (k : ℕ). Held (k + y)) (sym (h .rest b p (omega arith))) (g b l (omega arith))
+
+  -- the steps of the one in block m, from where the copies are read for it
+  block-steps : (m b f0 f1 f2 f3 : ℕ) → m < 4 → b ≡ 32 * half + 8 * m + i
+      → f0 ≡ 32 * (q ⊕ half) + 8 * (m ⊕ 0) → f1 ≡ 32 * (q ⊕ half) + 8 * (m ⊕ 1) → f2 ≡ 32 * (q ⊕ half) + 8 * (m ⊕ 2) → f3 ≡ 32 * (q ⊕ half) + 8 * (m ⊕ 3)
+      → fourSteps y (getD x (firstOf q) 0) (getD x (firstOf q + 8) 0) (getD x (firstOf q + 16) 0) (getD x (firstOf q + 24) 0) (getD copies (f0 + i) 0) (getD copies (f1 + i) 0) (getD copies (f2 + i) 0) (getD copies (f3 + i) 0) (getD after b 0)
+      ≡ stepsAt copies x q y b (getD before b 0)
+  block-steps m b f0 f1 f2 f3 l e e0 e1 e2 e3 =
+      let s : (j : ℕ) → 32 * (q ⊕ half) + 8 * (m ⊕ j) ≡ sourceOf q j (4 * half + m) = λ j. source-is q half m j (m ⊕ j) l refl in
+      steps-are copies x q y (4 * half + m) i b f0 f1 f2 f3 _ _ li (omega arith) (e0 ∙ s 0) (e1 ∙ s 1) (e2 ∙ s 2) (e3 ∙ s 3) (h .rest b (omega arith) (omega arith))
+
+  -- one value more of each block
+  pub lanes-steps : (v0 v1 v2 v3 : ℕ) → (let from = 32 * (q ⊕ half) in let x0 = getD x (firstOf q) 0 in let x1 = getD x (firstOf q + 8) 0 in let x2 = getD x (firstOf q + 16) 0 in let x3 = getD x (firstOf q + 24) 0 in
+      let w0 = getD copies (from + i) 0 in let w1 = getD copies (from + 8 + i) 0 in let w2 = getD copies (from + 16 + i) 0 in let w3 = getD copies (from + 24 + i) 0 in
+      v0 ≡ fourSteps y x0 x1 x2 x3 w0 w1 w2 w3 (getD after (32 * half + i) 0)
+      → v1 ≡ fourSteps y x0 x1 x2 x3 w1 w0 w3 w2 (getD after (32 * half + 8 + i) 0)
+      → v2 ≡ fourSteps y x0 x1 x2 x3 w2 w3 w0 w1 (getD after (32 * half + 16 + i) 0)
+      → v3 ≡ fourSteps y x0 x1 x2 x3 w3 w2 w1 w0 (getD after (32 * half + 24 + i) 0)
+      → LanesMapped (stepsAt copies x q y) half (i + 1) before (set (set (set (set after (32 * half + i) v0) (32 * half + 8 + i) v1) (32 * half + 16 + i) v2) (32 * half + 24 + i) v3))
+  unfolding _⊕_
+  lanes-steps v0 v1 v2 v3 s0 s1 s2 s3 =
+      let from = 32 * (q ⊕ half) in
+      let none : from ≡ from + 8 * 0 = omega arith in
+      lanes-more h lh li v0 v1 v2 v3
+      (s0 ∙ block-steps 0 (32 * half + i) from (from + 8) (from + 16) (from + 24) (omega arith) (omega arith) none refl refl refl)
+      (s1 ∙ block-steps 1 (32 * half + 8 + i) (from + 8) from (from + 24) (from + 16) (omega arith) refl refl none refl refl)
+      (s2 ∙ block-steps 2 (32 * half + 16 + i) (from + 16) (from + 24) from (from + 8) (omega arith) refl refl refl none refl)
+      (s3 ∙ block-steps 3 (32 * half + 24 + i) (from + 24) (from + 16) (from + 8) from (omega arith) refl refl refl refl none)

@@ -61,7 +61,7 @@ fn encode_lent(
     let lent_coefs = front(coefs, lent_length(kernels(n), d, e, 2));
     let lent_message = front(
         message,
-        lent_length(polar::message_places(lent_map), d, e, 4),
+        lent_length(polar_code::message_places(lent_map), d, e, 4),
     );
     let lent_codeword = lent(codeword, lent_length(places(n), d, e, 6));
     encode_line(n, lent_map, lent_coefs, lent_message, lent_codeword);

@@ -20,7 +20,7 @@ pub(crate) fn draw_word(state: u64, n: usize, map: &[u8], coefs: &[u8], word: &m
     let last = draw_bytes(state, &mut message, 256, 0, 64);
     let code_map = front(map, places(n));
     let code_coefs = front(coefs, kernels(n));
-    let code_message = front(&message, polar::message_places(code_map));
+    let code_message = front(&message, polar_code::message_places(code_map));
     let size = places(n);
     if size <= word.len() {
         polar::encode(n, code_map, code_coefs, code_message, &mut word[..size]);

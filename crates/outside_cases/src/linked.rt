@@ -143,7 +143,7 @@ fn trip_buffers(call: Call, map: &[u8], coefs: &[u8], message: &[u8]) {
     let d = call.d;
     let e = call.e;
     let size = places(call.n) % 512;
-    let count = polar::message_places(map);
+    let count = polar_code::message_places(map);
     let s = lent_length(size * 64, d, e, 45) % 16450;
     let f = lent_length(size * 64, d, e, 5) % 16450;
     let w = lent_length(size * 65, d, e, 7) % 16642;
@@ -176,7 +176,7 @@ pub(crate) fn trip_drawn(call: Call, map: &[u8], coefs: &[u8], message: &[u8]) {
     let e = call.e;
     let lent_map = front(map, lent_length(places(call.n), d, e, 1));
     let lent_coefs = front(coefs, lent_length(kernels(call.n), d, e, 3));
-    let count = polar::message_places(lent_map);
+    let count = polar_code::message_places(lent_map);
     let lent_message = front(message, lent_length(count, d, e, 43));
     trip_buffers(call, lent_map, lent_coefs, lent_message);
 }

@@ -32,7 +32,7 @@ fn run_case(state: u64, n: usize, d: usize, e: usize) -> u64 {
     let mut message = [0u8; 257];
     let s1 = draw_map(state, &mut map, places(n));
     let s2 = draw_bytes(s1, &mut coefs, kernels(n), 1, 63);
-    let count = polar::message_places(front(&map, places(n)));
+    let count = polar_code::message_places(front(&map, places(n)));
     let s3 = draw_bytes(s2, &mut message, count, 0, 64);
     let call = draw_call(s3, n, d, e);
     let s4 = step(call.last);

@@ -62,7 +62,7 @@ fn draw_line(state: u64, n: usize, qc: u32, qm: u32, line: &mut [u8]) -> u64 {
     let mut message = [0u8; 256];
     let s1 = draw_code(state, n, &mut map, &mut coefs);
     let code_map = front(&map, places(n));
-    let count = polar::message_places(code_map);
+    let count = polar_code::message_places(code_map);
     let s2 = draw_bytes(s1, &mut message, count, 0, 64);
     run_chain(
         draw_case(s2, n, qc, qm),

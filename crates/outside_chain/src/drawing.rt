@@ -37,7 +37,7 @@ fn freeze(state: u64, map: &mut [u8], size: usize) {
         put(map, (size % 512 + 511) % 512, 0);
         return;
     }
-    if polar::message_places(front(map, size)) == size {
+    if polar_code::message_places(front(map, size)) == size {
         put(map, 0, 1);
     }
 }

@@ -10,12 +10,12 @@ use lib.Pow.{pow-mono}
 use Rattle.refusal.specs.Table.{Numbered}
 use Rattle.refusal.proofs.Laws.{taken-none, none-taken}
 use Rattle.refusal.proofs.Within.{none-within, within-none, false-equal, equal-false}
-use Rattle.polar.specs.Code.{messagePlaces, IsCode, IsWord}
+use Rattle.polar_code.specs.Code.{messagePlaces, IsCode, IsWord}
 use Rattle.polar.specs.Encode.{wordBefore, codewordOf, encodeTable, encodeRefusal, Encodable}
 use Rattle.polar.specs.Halves.{blockTransform}
 use Rattle.polar.specs.Parts.{Room, Block, Placing}
 use Rattle.polar.proofs.Numbers.{half-pow, getD-each}
-use Rattle.polar.proofs.CodeLaws.{rows-code, code-sizes, code-bytes}
+use Rattle.polar_code.proofs.CodeLaws.{rows-code, code-sizes, code-bytes}
 use Rattle.polar.proofs.MessageLaws.{length-word, word-symbols}
 use Rattle.polar.proofs.ByHalves.{by-halves}
 use Rattle.polar.proofs.OneToOne.{transform-word}

@@ -10,7 +10,7 @@ use lib.ListN.{length, getD, set, length-set}
 use Rattle.gf64.specs.Field.{_⊕_, _⊙_}
 use Rattle.gf64.proofs.SumLaws.{sum-lt}
 use Rattle.gf64.proofs.ProductLaws.{product-lt}
-use Rattle.polar.specs.Code.{IsWord}
+use Rattle.polar_code.specs.Code.{IsWord}
 use Rattle.polar.specs.Transform.{theta, phi, coefficient, atKernel, atKernels, atLayer, layer, layers, Turned}
 use Rattle.polar.proofs.Numbers.{lt-or-le, getD-each, both-first, both-second, both-other}
 use Rattle.polar.proofs.Kernels.{theta-theta, theta-phi, phi-phi, theta-lt-phi, phi-lt, theta-lt, one-kernel}

@@ -9,6 +9,4 @@ pub mod OneToOne
 pub mod JoinLaws
 pub mod BlockLaws
 pub mod FourLaws
-pub mod CodeLaws
 pub mod EncodeLaws
-pub mod SizeLaws

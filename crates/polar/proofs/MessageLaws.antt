@@ -1,4 +1,4 @@
--- The laws of the map: which places hold message symbols, and the word that they make.
+-- The laws of the word that a message makes.
 use mathlib.Core.Path.{_≡_, refl, sym, ap, ap₂, _∙_, subst}
 use mathlib.Core.Bool.{Bool, true, false, cond}
 use mathlib.Core.List.{List, [], _∷_, _++_}
@@ -10,19 +10,10 @@ use borrow.Author.Tests.{eq-eqb, ne-eqb}
 use lib.Dec.{eqb, lit<}
 use lib.ListN.{length, getD, take, drop, set, length-set}
 use lib.Seq.{drop-cons, drop-drop, getD-drop, take-suc-set, append-snoc}
-use Rattle.polar.specs.Code.{Kind, message, frozen, kindOf, messageCount, messagePlaces}
+use Rattle.polar_code.specs.Code.{Kind, message, frozen, kindOf, messageCount, messagePlaces}
+use Rattle.polar_code.proofs.MapLaws.{places-from}
 use Rattle.polar.specs.Encode.{symbolAt, restAfter, wordBefore}
 use Rattle.polar.specs.Message.{withPlace, messageOf}
-
--- the byte 0 is a message place
-pub kind-message : (byte : ℕ) → byte ≡ 0 → kindOf byte ≡ message
-unfolding kindOf
-kind-message byte e = ap (λ (t : Bool). cond t message (frozen 0)) (eq-eqb byte 0 e)
-
--- any other byte is a frozen place
-pub kind-frozen : (byte : ℕ) → (byte ≡ 0 → ⊥) → kindOf byte ≡ frozen 0
-unfolding kindOf
-kind-frozen byte h = ap (λ (t : Bool). cond t message (frozen 0)) (ne-eqb byte 0 h)
 
 -- the word has a symbol for each map byte
 pub length-word : (map symbols : List ℕ) → length (wordBefore map symbols) ≡ length map
@@ -78,11 +69,6 @@ message-back (b ∷ map) symbols e = go (kindOf b) symbols e (message-back map)
 
 -- the map from place i on: the place itself, by its kind, and those after it
 module _ (map : List ℕ) (i : ℕ) (l : i < length map) {k : Kind} (e : kindOf (getD map i 0) ≡ k) where
-  -- the message places from place i on
-  pub places-from : messagePlaces (drop i map) ≡ messageCount k + messagePlaces (drop (suc i) map)
-  unfolding messagePlaces
-  places-from = ap messagePlaces (drop-cons map i 0 l) ∙ ap (λ (x : Kind). messageCount x + messagePlaces (drop (suc i) map)) e
-
   -- a word that holds the right symbols before place i, with the right one stored there
   pub word-from : (symbols word : List ℕ) → i < length word
       → take i word ++ wordBefore (drop i map) symbols
@@ -93,18 +79,6 @@ module _ (map : List ℕ) (i : ℕ) (l : i < length map) {k : Kind} (e : kindOf 
       ∙ ap (λ (x : Kind). take i word ++ symbolAt x symbols ∷ wordBefore (drop (suc i) map) (restAfter x symbols)) e
       ∙ sym (append-snoc (take i word) (symbolAt k symbols) (wordBefore (drop (suc i) map) (restAfter k symbols)))
       ∙ ap (λ (x : List ℕ). x ++ wordBefore (drop (suc i) map) (restAfter k symbols)) (sym (take-suc-set word i (symbolAt k symbols) s))
-
--- how far counting has come at place i: k of the places before it are message places
-abbrev pub Counted : (map : List ℕ) (k i : ℕ) → Type 0
-Counted map k i = (i ≤ length map) × (k ≤ i) × (k + messagePlaces (drop i map) ≡ messagePlaces map)
-
--- one place more
-pub count-more : (map : List ℕ) (k k′ i : ℕ) {kind : Kind} → i < length map → kindOf (getD map i 0) ≡ kind → k′ ≡ k + messageCount kind → messageCount kind ≤ 1
-    → Counted map k i → Counted map k′ (i + 1)
-count-more map k k′ i {kind} l e n s h =
-    let p = places-from map i l e in
-    let q = ap (λ (x : ℕ). messagePlaces (drop x map)) (add-one i) in
-    (omega arith, omega arith, let r = h .2 in omega arith)
 
 -- how far placing has come at place j: the word is right before it, and `next` symbols are used up
 abbrev pub PlacedTo : (map symbols before word : List ℕ) (next j : ℕ) → Type 0

@@ -9,7 +9,7 @@ use lib.Seq.{getD-take, getD-drop}
 use Rattle.gf64.specs.Field.{_⊕_, _⊙_, inverse, NonZero}
 use Rattle.gf64.proofs.SumLaws.{sum-lt, sum-back}
 use Rattle.gf64.proofs.ProductLaws.{product-lt, inverse-undoes, undoes-inverse}
-use Rattle.polar.specs.Code.{Coefficients, IsWord}
+use Rattle.polar_code.specs.Code.{Coefficients, IsWord}
 use Rattle.polar.specs.Transform.{transform}
 use Rattle.polar.specs.Tree.{Tree, map2, All, leaves, treeOf, at}
 use Rattle.polar.specs.Halves.{Coefs, join, transformTree, coefsAt, blockTransform}

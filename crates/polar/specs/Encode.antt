@@ -8,7 +8,7 @@ use lib.ListN.{length, getD, drop}
 use Rattle.refusal.specs.Table.{Row, refusalOf}
 use Rattle.refusal.specs.Tests.{Within}
 use Rattle.refusal.specs.Rows.{lengthRow, symbolsRow}
-use Rattle.polar.specs.Code.{Kind, message, frozen, kindOf, messagePlaces, layersRow, mapRow, emptyRow, coefsRow, IsCode}
+use Rattle.polar_code.specs.Code.{Kind, message, frozen, kindOf, messagePlaces, layersRow, mapRow, emptyRow, coefsRow, IsCode}
 use Rattle.polar.specs.Transform.{transform}
 
 -- what a place of a kind holds: the next message symbol, or its own

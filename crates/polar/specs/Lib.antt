@@ -1,4 +1,3 @@
-pub mod Code
 pub mod Transform
 pub mod Encode
 pub mod Message
@@ -6,4 +5,3 @@ pub mod Tree
 pub mod Halves
 pub mod Parts
 pub mod Join
-pub mod Sizes

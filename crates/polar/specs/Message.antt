@@ -2,7 +2,7 @@
 use Prim.Native.Nat.{ℕ}
 use mathlib.Core.List.{List, [], _∷_}
 use lib.ListN.{getD, drop}
-use Rattle.polar.specs.Code.{Kind, message, frozen, kindOf}
+use Rattle.polar_code.specs.Code.{Kind, message, frozen, kindOf}
 
 -- the message symbols from a place on: its own symbol s before those of the later places, if it is a message place
 unfoldable pub withPlace : Kind → ℕ → List ℕ → List ℕ

@@ -3,7 +3,7 @@ use Prim.Native.Nat.{ℕ, zero, suc, _+_, _/_, _^_, _≤_}
 use mathlib.Core.Path.{_≡_}
 use mathlib.Core.List.{List}
 use lib.ListN.{length}
-use Rattle.polar.specs.Code.{messagePlaces}
+use Rattle.polar_code.specs.Code.{messagePlaces}
 
 -- the coefficients of a block (Halves.coefsAt) are among n
 unfoldable pub Room : (m start stride n : ℕ) → Type 0

@@ -1,9 +1,9 @@
 // The encoder: a message to its codeword.
-use crate::code::code_refusal;
-use crate::places::message_places;
 use crate::places::place_message;
-use crate::sizes::place_count;
 use crate::transform::transform_block;
+use polar_code::code_refusal;
+use polar_code::message_places;
+use polar_code::place_count;
 ghost use mathlib.Core.Path.{_≡_};
 ghost use Rattle.polar.specs.Encode.{encodeRefusal, Encoded};
 

@@ -1,23 +1,7 @@
 // The places before the transform, by the frozen map.
 ghost use mathlib.Core.Path.{_≡_};
-ghost use Rattle.polar.specs.Code.{messagePlaces};
 ghost use Rattle.polar.specs.Encode.{wordBefore};
 ghost use Rattle.polar.specs.Parts.{Placing};
-
-// How many places of the map are message places (document 01: K). Any byte but 0 counts as a frozen place.
-pub fn message_places(map: &[u8]) -> usize
-    ensures { λ r. ⌜ r ≡ messagePlaces (now (map .entry)) ⌝ }
-{
-    let mut k: usize = 0;
-    let mut i: usize = 0;
-    while i < map.len() {
-        if map[i] == 0 {
-            k += 1;
-        }
-        i += 1;
-    }
-    k
-}
 
 // Writes the word before the transform: the symbols at the message places in rising order, 0 at the frozen ones.
 pub(crate) fn place_message(map: &[u8], symbols: &[u8], word: &mut [u8])

@@ -10,7 +10,7 @@ use lib.ListN.{length, getD, length-set, length-replicate, getD-replicate}
 use lib.Seq.{getD-set-same, getD-set-other, ext-getD}
 use Rattle.vector.specs.Vector.{vectorAt}
 use Rattle.vector.proofs.Laws.{joined-part, length-joined}
-use Rattle.polar.specs.Code.{kindOf, IsWord}
+use Rattle.polar_code.specs.Code.{kindOf, IsWord}
 use Rattle.polar.proofs.Numbers.{lt-or-le}
 use Rattle.scms.specs.Decision.{decision}
 use Rattle.scms.specs.Decoder.{heldAt, decidedTo, held, symbols, report}

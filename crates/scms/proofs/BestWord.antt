@@ -6,7 +6,7 @@ use Prim.Native.Nat.{ℕ, zero, suc, _/_, _^_, _<_}
 use native.Mathlib.Nat.{le-trans, le-of-eq, le-antisymm}
 use native.Mathlib.Omega.{arith}
 use lib.ListN.{getD}
-use Rattle.polar.specs.Code.{kindOf, Coefficients}
+use Rattle.polar_code.specs.Code.{kindOf, Coefficients}
 use Rattle.polar.specs.Transform.{transform}
 use Rattle.polar.specs.Tree.{Tree, map2, treeSum, All, All2, treeOf, number}
 use Rattle.polar.specs.Halves.{Coefs, join, transformTree, coefsAt}

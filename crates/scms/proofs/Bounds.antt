@@ -8,7 +8,7 @@ use lib.Pow.{pow-mono}
 use lib.ListN.{getD}
 use Rattle.refusal.specs.Tests.{Within}
 use Rattle.vector.specs.Vector.{HasZero, AtMost}
-use Rattle.polar.specs.Code.{Coefficients, IsWord}
+use Rattle.polar_code.specs.Code.{Coefficients, IsWord}
 use Rattle.polar.specs.Transform.{theta, phi, coefficient}
 use Rattle.polar.proofs.Kernels.{theta-lt, phi-lt}
 use Rattle.polar.proofs.Numbers.{two-pow}

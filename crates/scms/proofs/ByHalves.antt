@@ -7,7 +7,7 @@ use native.Mathlib.Omega.{arith}
 use lib.ListN.{length, getD, take, drop}
 use Rattle.vector.specs.Vector.{sumTo}
 use Rattle.vector.proofs.Laws.{sum-ext, joined-ext}
-use Rattle.polar.specs.Code.{kindOf}
+use Rattle.polar_code.specs.Code.{kindOf}
 use Rattle.polar.specs.Transform.{layers, transform}
 use Rattle.polar.specs.Tree.{Tree, map1, treeOf, leaves, Place, here, first, second, at, number}
 use Rattle.polar.specs.Halves.{transformTree, coefsAt, blockTransform}

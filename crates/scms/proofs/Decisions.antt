@@ -7,7 +7,7 @@ use native.Mathlib.Nat.{le-refl}
 use native.Mathlib.Omega.{arith}
 use lib.ListN.{getD}
 use Rattle.vector.specs.Vector.{HasZero}
-use Rattle.polar.specs.Code.{kindOf, Coefficients}
+use Rattle.polar_code.specs.Code.{kindOf, Coefficients}
 use Rattle.scms.specs.Decoder.{heldAt, held, symbols}
 use Rattle.scms.specs.Totals.{EachZero}
 use Rattle.scms.specs.Claims.{Decided}

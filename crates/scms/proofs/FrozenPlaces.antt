@@ -7,7 +7,7 @@ use native.Mathlib.Omega.{arith}
 use lib.ListN.{getD, take, drop}
 use lib.Pow.{pow-pos}
 use lib.Seq.{getD-take, getD-drop}
-use Rattle.polar.specs.Code.{Kind, message, frozen, kindOf, messageCount}
+use Rattle.polar_code.specs.Code.{Kind, message, frozen, kindOf, messageCount}
 use Rattle.polar.specs.Tree.{Tree, All, All2, treeOf}
 use Rattle.polar.proofs.Numbers.{two-pow, lt-or-le}
 use Rattle.polar.proofs.TreeLaws.{all-treeOf}

@@ -8,7 +8,7 @@ use native.Mathlib.Omega.{arith}
 use lib.ListN.{length, getD, take}
 use Rattle.vector.specs.Vector.{leastTo}
 use Rattle.vector.proofs.Laws.{least-to-le, least-to-at}
-use Rattle.polar.specs.Code.{Coefficients}
+use Rattle.polar_code.specs.Code.{Coefficients}
 use Rattle.polar.specs.Tree.{Tree, leaves, treeOf, Place, at, number}
 use Rattle.polar.specs.Halves.{coefsAt}
 use Rattle.polar.proofs.TreeLaws.{place-of, length-leaves, treeOf-at, leaves-at, leaves-number}

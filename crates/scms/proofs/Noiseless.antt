@@ -6,7 +6,7 @@ use native.Mathlib.Nat.{le-refl}
 use native.Mathlib.Omega.{arith}
 use lib.ListN.{length, getD}
 use Rattle.vector.specs.Vector.{vectorAt, OnlyZero}
-use Rattle.polar.specs.Code.{kindOf, Coefficients, IsWord}
+use Rattle.polar_code.specs.Code.{kindOf, Coefficients, IsWord}
 use Rattle.polar.specs.Transform.{theta, phi, coefficient, layer, layers, transform, Turned}
 use Rattle.polar.proofs.Kernels.{theta-lt, phi-lt}
 use Rattle.polar.proofs.LayerLaws.{layer-turned, layers-word}

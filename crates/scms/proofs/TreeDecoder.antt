@@ -1,7 +1,7 @@
 -- The decoder by halves: what it decides, and its word.
 use mathlib.Core.Path.{_≡_, refl, ap₂}
 use Prim.Native.Nat.{ℕ, zero, suc}
-use Rattle.polar.specs.Code.{kindOf}
+use Rattle.polar_code.specs.Code.{kindOf}
 use Rattle.polar.specs.Tree.{Tree, All, Place, here, first, second, at}
 use Rattle.polar.specs.Halves.{Coefs, join, transformTree}
 use Rattle.polar.proofs.OneToOne.{Symbol}

@@ -9,7 +9,7 @@ use lib.ListN.{length, getD, take, length-append, List·getD-append}
 use lib.Seq.{getD-take, getD-append-add, length-take-le, take-suc, ext-getD}
 use Rattle.vector.specs.Vector.{tabulate, vectorAt}
 use Rattle.vector.proofs.Laws.{getD-tabulate}
-use Rattle.polar.specs.Code.{IsWord}
+use Rattle.polar_code.specs.Code.{IsWord}
 use Rattle.polar.specs.Transform.{transform}
 use Rattle.polar.specs.Tree.{Tree, map2, All, leaves, treeOf, Place, here, first, second, at, number}
 use Rattle.polar.specs.Halves.{transformTree, coefsAt, blockTransform}

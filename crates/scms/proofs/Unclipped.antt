@@ -9,7 +9,7 @@ use lib.Dec.{lit≤}
 use lib.Pow.{pow-mono}
 use Rattle.vector.specs.Vector.{sumTo}
 use Rattle.vector.proofs.Laws.{sum-none, term-le}
-use Rattle.polar.specs.Code.{Coefficients}
+use Rattle.polar_code.specs.Code.{Coefficients}
 use Rattle.scms.specs.Decoder.{capOf, loweredAt, clippedAt, clipCount, symbols, count}
 use Rattle.scms.specs.Totals.{EachZero, EachAtMost, Unclipped}
 use Rattle.scms.specs.Claims.{CountZero, NeverClipped}

@@ -9,7 +9,7 @@ use Rattle.refusal.specs.Tests.{Within}
 use Rattle.vector.specs.Vector.{vectorAt}
 use Rattle.vector.proofs.Laws.{length-tabulate, getD-tabulate}
 use Rattle.gf64.specs.Field.{NonZero}
-use Rattle.polar.specs.Code.{Coefficients, IsWord}
+use Rattle.polar_code.specs.Code.{Coefficients, IsWord}
 use Rattle.polar.specs.Transform.{theta, phi, coefficient}
 use Rattle.polar.proofs.Kernels.{theta-lt, phi-lt}
 use Rattle.polar.proofs.LayerLaws.{at-layer-long, layer-made, each-place, layers-word}

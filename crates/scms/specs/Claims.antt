@@ -7,7 +7,7 @@ use mathlib.Core.List.{List, [], _∷_, _++_}
 use lib.ListN.{getD, take}
 use Rattle.refusal.specs.Tests.{Within}
 use Rattle.vector.specs.Vector.{leastTo, vectorAt, HasZero, AtMost, OnlyZero}
-use Rattle.polar.specs.Code.{kindOf, message, frozen, Coefficients}
+use Rattle.polar_code.specs.Code.{kindOf, message, frozen, Coefficients}
 use Rattle.polar.specs.Transform.{theta, phi, coefficient, transform}
 use Rattle.scms.specs.Nodes.{checkNode, clipped}
 use Rattle.scms.specs.Decoder.{capOf, thetaSymbol, vectors, thetaVector, phiVector, loweredAt, takenOff, heldAt, held, symbols, count}

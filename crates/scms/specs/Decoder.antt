@@ -3,7 +3,7 @@ use Prim.Native.Nat.{ℕ, zero, suc, _+_, _*_, _/_, _%_, _-_, _^_}
 use mathlib.Core.List.{List, []}
 use lib.ListN.{getD, set, replicate}
 use Rattle.vector.specs.Vector.{tabulate, vectorAt, joined, sumTo}
-use Rattle.polar.specs.Code.{kindOf}
+use Rattle.polar_code.specs.Code.{kindOf}
 use Rattle.polar.specs.Transform.{theta, phi, coefficient, atLayer, layers}
 use Rattle.scms.specs.Nodes.{Lowered, checkNode, variableNode, lowered, exceeding}
 use Rattle.scms.specs.Decision.{decision}

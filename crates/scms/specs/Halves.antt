@@ -5,7 +5,7 @@ use mathlib.Core.Path.{_≡_}
 use mathlib.Core.List.{List, []}
 use lib.ListN.{getD}
 use Rattle.vector.specs.Vector.{tabulate, vectorAt, joined}
-use Rattle.polar.specs.Code.{kindOf}
+use Rattle.polar_code.specs.Code.{kindOf}
 use Rattle.polar.specs.Tree.{Tree, map1, map3, map4, treeSum, treeOf, leaves}
 use Rattle.polar.specs.Transform.{transform}
 use Rattle.polar.specs.Halves.{Coefs, join, coefsAt}

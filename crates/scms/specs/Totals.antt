@@ -5,7 +5,7 @@ use mathlib.Core.List.{List}
 use lib.ListN.{length, getD, take}
 use Rattle.refusal.specs.Tests.{Within}
 use Rattle.vector.specs.Vector.{vectorAt, sumTo, HasZero, AtMost}
-use Rattle.polar.specs.Code.{kindOf, message, frozen, IsWord}
+use Rattle.polar_code.specs.Code.{kindOf, message, frozen, IsWord}
 use Rattle.polar.specs.Transform.{transform}
 use Rattle.scms.specs.Decoder.{loweredAt, symbols}
 

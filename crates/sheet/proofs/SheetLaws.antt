@@ -17,8 +17,8 @@ use Rattle.refusal.specs.Returned.{Returned}
 use Rattle.refusal.specs.Tests.{outside, anyOutside, Within}
 use Rattle.refusal.proofs.Laws.{here, later, finds-refusal, taken-none, none-taken, first-refused, first-taken, both-taken, taken-both, when-taken, when-refused, refusal-has}
 use Rattle.refusal.proofs.Within.{not-both, or-left, or-right, or-true-right, inside-within, false-equal, equal-false, unequal-true}
-use Rattle.polar.specs.Code.{kindOf, messageCount, messagePlaces, IsCode}
-use Rattle.polar.proofs.CodeLaws.{rows-code}
+use Rattle.polar_code.specs.Code.{kindOf, messageCount, messagePlaces, IsCode}
+use Rattle.polar_code.proofs.CodeLaws.{rows-code}
 use Rattle.vector.specs.Vector.{tabulate}
 use Rattle.vector.proofs.Laws.{length-tabulate, getD-tabulate}
 use Rattle.columns.specs.Reading.{spelled, part, isLine}

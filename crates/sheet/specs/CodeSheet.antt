@@ -11,7 +11,7 @@ use Rattle.refusal.specs.Tests.{anyTo, unequal}
 use Rattle.refusal.specs.Returned.{Returned}
 use Rattle.vector.specs.Vector.{tabulate}
 use Rattle.columns.specs.Reading.{spelled, part, isLine}
-use Rattle.polar.specs.Code.{layersRow, mapRow, emptyRow, coefsRow, IsCode}
+use Rattle.polar_code.specs.Code.{layersRow, mapRow, emptyRow, coefsRow, IsCode}
 use Rattle.sheet.specs.declared.code_sheet.Answer.{Answer}
 use Rattle.sheet.specs.declared.code_sheet.Answer.the-variants.{Layers, Refused}
 

@@ -1,8 +1,8 @@
 // The code sheet.
 use crate::number::spelled_number;
 use crate::sheet_refusal::sheet_refusal;
-use polar::kernel_count;
-use polar::place_count;
+use polar_code::kernel_count;
+use polar_code::place_count;
 ghost use mathlib.Core.Path.{_≡_};
 ghost use lib.ListN.{length};
 ghost use Rattle.sheet.specs.CodeSheet.{numbersOn, SheetRead};

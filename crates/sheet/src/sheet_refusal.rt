@@ -1,8 +1,8 @@
 // The refusals of `read_sheet`: the first test that fits, in the reader's own order.
 use crate::line::is_line;
 use crate::number::spelled_number;
-use polar::kernel_count;
-use polar::place_count;
+use polar_code::kernel_count;
+use polar_code::place_count;
 ghost use mathlib.Core.Path.{_≡_};
 ghost use Prim.Native.Nat.{_/_};
 ghost use lib.ListN.{length};

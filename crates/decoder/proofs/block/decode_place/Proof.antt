@@ -6,7 +6,7 @@ use native.Mathlib.Omega.{arith}
 use borrow.Author.Needs.{needs}
 use lib.ListN.{length, getD}
 use Rattle.vector.specs.Vector.{vectorAt}
-use Rattle.polar.specs.Code.{kindOf}
+use Rattle.polar_code.specs.Code.{kindOf}
 use Rattle.scms.specs.Decision.{decision}
 use Rattle.vector.proofs.SliceLaws.{stored-is}
 use Rattle.decoder.proofs.Laws.{set-only}

@@ -3,7 +3,7 @@ use mathlib.Core.Path.{sym, ap, _∙_}
 use mathlib.Core.Bool.{Bool, cond}
 use borrow.Author.Needs.{needs}
 use borrow.Author.Tests.{eq-eqb, ne-eqb}
-use Rattle.polar.specs.Code.{kindOf, message, frozen}
+use Rattle.polar_code.specs.Code.{kindOf, message, frozen}
 use Rattle.scms.specs.Decision.{decision}
 use Rattle.decoder.proofs.decision.decide.Statement.{statement}
 use Rattle.decoder.proofs.decision.decide.Tie as tie

@@ -9,7 +9,7 @@ use Rattle.refusal.specs.Table.{Row, refusalOf}
 use Rattle.refusal.proofs.Laws.{Finds, here, later, finds-refusal, refusal-finds}
 use Rattle.refusal.proofs.Within.{inside-within}
 use Rattle.vector.proofs.FrameLaws.{largest-is}
-use Rattle.polar.proofs.CodeLaws.{code-refused, code-passed}
+use Rattle.polar_code.proofs.CodeLaws.{code-refused, code-passed}
 use Rattle.decoder_refusal.specs.Refusals.{penaltyTable, contentTable}
 use Rattle.decoder_refusal.proofs.refusals.content_refusal.Statement.{statement}
 use Rattle.decoder_refusal.proofs.refusals.content_refusal.Tie as tie

@@ -4,8 +4,8 @@ use Prim.Native.Nat.{ℕ, _*_, _/_, _^_}
 use native.Mathlib.Omega.{arith}
 use lib.ListN.{take}
 use lib.Seq.{length-take-le}
-use Rattle.polar.specs.Code.{IsCode}
-use Rattle.polar.proofs.SizeLaws.{places-are, kernels-are}
+use Rattle.polar_code.specs.Code.{IsCode}
+use Rattle.polar_code.proofs.SizeLaws.{places-are, kernels-are}
 use borrow.Author.Needs.{needs}
 use Rattle.files.proofs.program.run_code.Statement.{statement}
 use Rattle.files.proofs.program.run_code.Tie as tie

@@ -8,8 +8,8 @@ use borrow.Author.Needs.{needs}
 use lib.ListN.{length, getD, take, drop, drop-of-length-le}
 use lib.Seq.{take-all}
 use Rattle.polar.specs.Message.{messageOf}
-use Rattle.polar.specs.Code.{messagePlaces}
-use Rattle.polar.proofs.MessageLaws.{kind-message, kind-frozen}
+use Rattle.polar_code.specs.Code.{messagePlaces}
+use Rattle.polar_code.proofs.MapLaws.{kind-message, kind-frozen}
 use Rattle.loopback.proofs.ReadLaws.{ReadTo, as-read, room-left, read-more, read-past}
 use Rattle.loopback.proofs.message.read_message.Statement.{statement}
 use Rattle.loopback.proofs.message.read_message.Tie as tie

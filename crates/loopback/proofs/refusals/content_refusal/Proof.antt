@@ -7,7 +7,7 @@ use borrow.Author.Tests.{eq-eqb, ne-eqb}
 use lib.ListN.{drop}
 use Rattle.refusal.specs.Table.{Row, refusalOf}
 use Rattle.refusal.proofs.Laws.{Finds, none, here, later, finds-refusal}
-use Rattle.polar.proofs.CodeLaws.{code-refused, code-passed}
+use Rattle.polar_code.proofs.CodeLaws.{code-refused, code-passed}
 use Rattle.ccsk.specs.Chips.{turned}
 use Rattle.loopback.specs.Refusals.{contentTable}
 use Rattle.loopback.proofs.refusals.content_refusal.Statement.{statement}

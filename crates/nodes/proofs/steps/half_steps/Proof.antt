@@ -7,7 +7,7 @@ use lib.Bits.{bitXor, xor-lt}
 use lib.ListN.{getD}
 use Rattle.gf64.specs.Field.{_⊕_}
 use Rattle.nodes.specs.Steps.{Held, FourHeld, Raised, FourSmall, fourSteps, sourceOf, firstOf, stepsAt}
-use Rattle.nodes.proofs.StepLaws.{LanesMapped, lanes-none, lanes-more, lanes-all, source-is, steps-are}
+use Rattle.nodes.proofs.StepLaws.{LanesMapped, lanes-none, lanes-held, lanes-steps, lanes-all}
 use Rattle.nodes.proofs.steps.half_steps.Statement.{statement}
 use Rattle.nodes.proofs.steps.half_steps.Tie as tie
 
@@ -24,13 +24,6 @@ entry c = c .before .before .before .before .before
 -- where the copies are read is within them
 within : (c : tie.Start Inv-loop μ-loop) → bitXor (c .args .q) (c .args .half) < 16
 within c = let p = c .pre in xor-lt 4 (c .args .q) (c .args .half) (omega arith) (omega arith)
-
--- what is held for an entry of the half that has not been reached
-held-at : (c : tie.In-loop Inv-loop μ-loop) (b : ℕ) → b < 64 → b / 32 ≡ entry (c .before) .args .half → c .before .loop .i ≤ b % 8
-    → Held (getD (c .before .loop .r) b 0 + entry (c .before) .args .y)
-held-at c b l h m =
-    let s = entry (c .before) in
-    subst (λ (k : ℕ). Held (k + s .args .y)) (sym (c .before .loop .inv .0 .rest b h m)) (s .pre .4 b l (omega arith))
 
 -- the four penalties are small
 small-at : (c : tie.Start Inv-loop μ-loop)
@@ -52,20 +45,6 @@ room c = let p = entry (c .before) .pre in (omega arith, omega arith, within (en
 -- what is read of the copies is raised
 raised-at : (c : tie.In-loop Inv-loop μ-loop) (n : ℕ) → n < 512 → Raised (getD (entry (c .before) .args .copies .now) n 0)
 raised-at c n l = entry (c .before) .pre .0 .raised n l
-
--- the steps of the value at i of block m, from where the copies are read for it
-value-at : (c : tie.In-loop Inv-loop μ-loop) (m b f0 f1 f2 f3 : ℕ) → m < 4 → b ≡ 32 * entry (c .before) .args .half + 8 * m + c .before .loop .i
-    → f0 ≡ 32 * (entry (c .before) .args .q ⊕ entry (c .before) .args .half) + 8 * (m ⊕ 0) → f1 ≡ 32 * (entry (c .before) .args .q ⊕ entry (c .before) .args .half) + 8 * (m ⊕ 1)
-    → f2 ≡ 32 * (entry (c .before) .args .q ⊕ entry (c .before) .args .half) + 8 * (m ⊕ 2) → f3 ≡ 32 * (entry (c .before) .args .q ⊕ entry (c .before) .args .half) + 8 * (m ⊕ 3)
-    → fourSteps (entry (c .before) .args .y) (getD (entry (c .before) .args .x .now) (firstOf (entry (c .before) .args .q)) 0) (getD (entry (c .before) .args .x .now) (firstOf (entry (c .before) .args .q) + 8) 0) (getD (entry (c .before) .args .x .now) (firstOf (entry (c .before) .args .q) + 16) 0) (getD (entry (c .before) .args .x .now) (firstOf (entry (c .before) .args .q) + 24) 0)
-    (getD (entry (c .before) .args .copies .now) (f0 + c .before .loop .i) 0) (getD (entry (c .before) .args .copies .now) (f1 + c .before .loop .i) 0) (getD (entry (c .before) .args .copies .now) (f2 + c .before .loop .i) 0) (getD (entry (c .before) .args .copies .now) (f3 + c .before .loop .i) 0) (getD (c .before .loop .r) b 0)
-    ≡ stepsAt (entry (c .before) .args .copies .now) (entry (c .before) .args .x .now) (entry (c .before) .args .q) (entry (c .before) .args .y) b (getD (entry (c .before) .args .held) b 0)
-value-at c m b f0 f1 f2 f3 l e e0 e1 e2 e3 =
-    let a = entry (c .before) .args in
-    let r = room c in
-    let s : (j : ℕ) → 32 * (a .q ⊕ a .half) + 8 * (m ⊕ j) ≡ sourceOf (a .q) j (4 * a .half + m) = λ j. source-is (a .q) (a .half) m j (m ⊕ j) l refl in
-    steps-are (a .copies .now) (a .x .now) (a .q) (a .y) (4 * a .half + m) (c .before .loop .i) b f0 f1 f2 f3 _ _ (r .1) (omega arith)
-    (e0 ∙ s 0) (e1 ∙ s 1) (e2 ∙ s 2) (e3 ∙ s 3) (c .before .loop .inv .0 .rest b (omega arith) (omega arith))
 
 mul-first : tie.Need-mul-first Inv-loop μ-loop
 mul-first c = search needs
@@ -207,8 +186,10 @@ element-copy-out-b3 c = search needs
 
 lane-steps-requires : tie.Need-lane-steps-requires Inv-loop μ-loop
 lane-steps-requires c κs =
-    let turn = c .before .before .before .before in (
-      record { first = held-at turn _ (omega arith) (omega arith) (omega arith); second = held-at turn _ (omega arith) (omega arith) (omega arith); third = held-at turn _ (omega arith) (omega arith) (omega arith); fourth = held-at turn _ (omega arith) (omega arith) (omega arith) },
+    let turn = c .before .before .before .before in
+    let a = entry (turn .before) .args in
+    let r = room turn in (
+      lanes-held (a .copies .now) (a .x .now) (a .q) (a .y) (turn .before .loop .inv .0) (r .0) (r .1) (entry (turn .before) .pre .4),
       small-at (entry (turn .before)),
       raised-at turn _ (omega arith),
       raised-at turn _ (omega arith),
@@ -251,11 +232,9 @@ unfolding _⊕_
 loop-again c =
     let turn = c .before .before .before .before .before in
     let r = room turn in
-    let e0 = c .lane-steps .ensures .0 ∙ value-at turn 0 _ _ _ _ _ (omega arith) (omega arith) (omega arith) (omega arith) (omega arith) (omega arith) in
-    let e1 = c .lane-steps .ensures .1 ∙ value-at turn 1 _ _ _ _ _ (omega arith) (omega arith) (omega arith) (omega arith) (omega arith) (omega arith) in
-    let e2 = c .lane-steps .ensures .2 ∙ value-at turn 2 _ _ _ _ _ (omega arith) (omega arith) (omega arith) (omega arith) (omega arith) (omega arith) in
-    let e3 = c .lane-steps .ensures .3 ∙ value-at turn 3 _ _ _ _ _ (omega arith) (omega arith) (omega arith) (omega arith) (omega arith) (omega arith) in
-    (lanes-more (turn .before .loop .inv .0) (r .0) (r .1) _ _ _ _ e0 e1 e2 e3, omega arith, turn .before .loop .inv .2)
+    let a = entry (turn .before) .args in
+    let made = c .lane-steps .ensures in
+    (lanes-steps (a .copies .now) (a .x .now) (a .q) (a .y) (turn .before .loop .inv .0) (r .0) (r .1) _ _ _ _ (made .0) (made .1) (made .2) (made .3), omega arith, turn .before .loop .inv .2)
 
 returns : tie.Need-returns Inv-loop μ-loop
 returns c = lanes-all (c .before .loop .inv .0) (omega arith)

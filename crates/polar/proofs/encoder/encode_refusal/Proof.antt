@@ -11,8 +11,8 @@ use Rattle.refusal.specs.Table.{Row}
 use Rattle.refusal.proofs.Laws.{Finds, none, here, later, finds-refusal}
 use Rattle.refusal.proofs.Within.{below-outside, above-outside, within-inside, equal-false, unequal-true}
 use Rattle.polar.specs.Encode.{encodeTable, encodeRefusal}
-use Rattle.polar.proofs.CodeLaws.{code-refused, code-passed}
-use Rattle.polar.proofs.SizeLaws.{places-are}
+use Rattle.polar_code.proofs.CodeLaws.{code-refused, code-passed}
+use Rattle.polar_code.proofs.SizeLaws.{places-are}
 use Rattle.polar.proofs.encoder.encode_refusal.Statement.{statement}
 use Rattle.polar.proofs.encoder.encode_refusal.Tie as tie
 

@@ -9,9 +9,10 @@ use native.Mathlib.Omega.{arith}
 use borrow.Author.Needs.{needs}
 use lib.ListN.{length, getD, take, drop, set, drop-of-length-le}
 use lib.Seq.{take-all}
-use Rattle.polar.specs.Code.{messageCount}
+use Rattle.polar_code.specs.Code.{messageCount}
 use Rattle.polar.specs.Encode.{symbolAt, restAfter, wordBefore}
-use Rattle.polar.proofs.MessageLaws.{kind-message, kind-frozen, places-from, PlacedTo, place-more, next-placed, next-left}
+use Rattle.polar_code.proofs.MapLaws.{kind-message, kind-frozen, places-from}
+use Rattle.polar.proofs.MessageLaws.{PlacedTo, place-more, next-placed, next-left}
 use Rattle.polar.proofs.places.place_message.Statement.{statement}
 use Rattle.polar.proofs.places.place_message.Tie as tie
 

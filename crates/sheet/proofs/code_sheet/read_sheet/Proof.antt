@@ -5,7 +5,7 @@ use Prim.Native.Nat.{ℕ, _+_, _*_, _/_, _^_, _≤_}
 use native.Mathlib.Omega.{arith}
 use lib.ListN.{length, take, drop}
 use lib.Seq.{length-take-le}
-use Rattle.polar.proofs.SizeLaws.{places-are, kernels-are}
+use Rattle.polar_code.proofs.SizeLaws.{places-are, kernels-are}
 use Rattle.sheet.specs.CodeSheet.{numbersOn, sheetLayers, sheetPlaces, sheetKernels, sheetMap, sheetCoefs, sheetRefusal}
 use Rattle.sheet.specs.Parts.{NumbersGiven}
 use Rattle.sheet.proofs.SheetLaws.{first-number, lines, map-room, coefs-room, map-given, coefs-given, sheet-refused, sheet-taken}

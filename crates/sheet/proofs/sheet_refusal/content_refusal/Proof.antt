@@ -9,8 +9,8 @@ use lib.ListN.{length, drop}
 use Rattle.refusal.specs.Table.{Row, refusalOf}
 use Rattle.refusal.specs.Tests.{anyOutside}
 use Rattle.refusal.proofs.Laws.{Finds, none, here, later, finds-refusal}
-use Rattle.polar.specs.Code.{messagePlaces}
-use Rattle.polar.proofs.SizeLaws.{places-are, kernels-are}
+use Rattle.polar_code.specs.Code.{messagePlaces}
+use Rattle.polar_code.proofs.SizeLaws.{places-are, kernels-are}
 use Rattle.sheet.specs.CodeSheet.{numbersOn, sheetPlaces, sheetKernels, sheetMap, sheetCoefs, contentTable}
 use Rattle.sheet.specs.Parts.{Lines}
 use Rattle.sheet.proofs.SheetLaws.{map-lines, coef-lines, all-frozen}

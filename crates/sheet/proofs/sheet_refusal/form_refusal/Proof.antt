@@ -11,7 +11,7 @@ use Rattle.refusal.specs.Table.{Row, refusalOf}
 use Rattle.refusal.specs.Tests.{outside, anyTo}
 use Rattle.refusal.proofs.Laws.{Finds, none, here, later, finds-refusal}
 use Rattle.refusal.proofs.Within.{inside-within, equal-false, unequal-true}
-use Rattle.polar.proofs.SizeLaws.{places-are, kernels-are}
+use Rattle.polar_code.proofs.SizeLaws.{places-are, kernels-are}
 use Rattle.columns.specs.Reading.{part}
 use Rattle.sheet.specs.CodeSheet.{badLine, sheetLayers, sheetLines, formTable}
 use Rattle.sheet.proofs.SheetLaws.{first-number}

@@ -7,10 +7,10 @@ use native.Mathlib.Omega.{arith}
 use borrow.Author.Needs.{needs}
 use lib.Dec.{lit≤}
 use lib.ListN.{length, getD, drop-of-length-le}
-use Rattle.polar.specs.Code.{messagePlaces, messageCount}
-use Rattle.polar.proofs.MessageLaws.{kind-message, kind-frozen, Counted, count-more}
-use Rattle.polar.proofs.places.message_places.Statement.{statement}
-use Rattle.polar.proofs.places.message_places.Tie as tie
+use Rattle.polar_code.specs.Code.{messagePlaces, messageCount}
+use Rattle.polar_code.proofs.MapLaws.{kind-message, kind-frozen, Counted, count-more}
+use Rattle.polar_code.proofs.places.message_places.Statement.{statement}
+use Rattle.polar_code.proofs.places.message_places.Tie as tie
 
 abbrev Inv-loop : tie.InvT-loop
 Inv-loop map k₀ i₀ k i = Counted map k i

@@ -7,9 +7,9 @@ use borrow.Author.Tests.{eq-eqb, ne-eqb}
 use lib.ListN.{drop}
 use Rattle.refusal.specs.Table.{Row, refusalOf}
 use Rattle.refusal.proofs.Laws.{Finds, none, here, later, finds-refusal}
-use Rattle.polar.specs.Code.{codeTable}
-use Rattle.polar.proofs.code.code_refusal.Statement.{statement}
-use Rattle.polar.proofs.code.code_refusal.Tie as tie
+use Rattle.polar_code.specs.Code.{codeTable}
+use Rattle.polar_code.proofs.code.code_refusal.Statement.{statement}
+use Rattle.polar_code.proofs.code.code_refusal.Tie as tie
 
 -- the table for what the function was given
 abbrev table : tie.Start → List Row

@@ -2,7 +2,7 @@
 use mathlib.Core.Path.{_≡_, ap}
 use Prim.Native.Nat.{ℕ, _*_, _/_, _^_, _≤_}
 use native.Mathlib.Nat.{min-eq-left}
-use Rattle.polar.specs.Sizes.{placesOf, kernelsOf}
+use Rattle.polar_code.specs.Sizes.{placesOf, kernelsOf}
 
 module _ (n : ℕ) (few : n ≤ 8) where
   -- up to 8 layers there are 2^n places

@@ -3,10 +3,10 @@ use mathlib.Core.Path.{ap₂}
 use Prim.Native.Nat.{ℕ, _*_, _/_, _≤_}
 use native.Mathlib.Nat.{min-le-right, mul-le-mul-right}
 use native.Mathlib.Omega.{arith}
-use Rattle.polar.specs.Sizes.{kernelsOf}
+use Rattle.polar_code.specs.Sizes.{kernelsOf}
 use borrow.Author.Needs.{needs}
-use Rattle.polar.proofs.sizes.kernel_count.Statement.{statement}
-use Rattle.polar.proofs.sizes.kernel_count.Tie as tie
+use Rattle.polar_code.proofs.sizes.kernel_count.Statement.{statement}
+use Rattle.polar_code.proofs.sizes.kernel_count.Tie as tie
 
 at-most-8-requires : tie.Need-at-most-8-requires
 at-most-8-requires c κs = search needs

@@ -9,7 +9,7 @@ use Rattle.refusal.specs.Table.{Row, refusalOf, NoneFits, Numbered}
 use Rattle.refusal.specs.Rows.{lengthRow}
 use Rattle.refusal.proofs.Laws.{Finds, refusal-finds, taken-none, finds-first, finds-second}
 use Rattle.refusal.proofs.Within.{inside-within, within-inside, none-within, within-none, false-equal, equal-false}
-use Rattle.polar.specs.Code.{messagePlaces, layersRow, codeTable, IsCode}
+use Rattle.polar_code.specs.Code.{messagePlaces, layersRow, codeTable, IsCode}
 
 module _ (map cs : List ℕ) where
   -- no row has the number 0

@@ -2,7 +2,7 @@
 use crate::places::message_places;
 ghost use mathlib.Core.Path.{_≡_};
 ghost use Rattle.refusal.specs.Table.{refusalOf};
-ghost use Rattle.polar.specs.Code.{codeTable};
+ghost use Rattle.polar_code.specs.Code.{codeTable};
 
 // The number by which a code's bytes are refused, for any map and any coefficients: 4 where a map byte is above 1, else 5 where no place
 // is a message place, else 6 where a coefficient is 0 or above 63, and 0 where none of these fits. The lengths are not judged.

@@ -4,10 +4,10 @@ use Prim.Native.Nat.{ℕ, _*_, _%_, _^_, _≤_}
 use native.Mathlib.Nat.{min-le-right}
 use native.Mathlib.Omega.{arith}
 use lib.Pow.{pow-mono}
-use Rattle.polar.specs.Sizes.{placesOf}
+use Rattle.polar_code.specs.Sizes.{placesOf}
 use borrow.Author.Needs.{needs}
-use Rattle.polar.proofs.sizes.place_count.Statement.{statement}
-use Rattle.polar.proofs.sizes.place_count.Tie as tie
+use Rattle.polar_code.proofs.sizes.place_count.Statement.{statement}
+use Rattle.polar_code.proofs.sizes.place_count.Tie as tie
 
 at-most-8-requires : tie.Need-at-most-8-requires
 at-most-8-requires c κs = search needs

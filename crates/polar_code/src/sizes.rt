@@ -1,7 +1,7 @@
 // The sizes of a code, from its number of layers.
 ghost use mathlib.Core.Path.{_≡_};
 ghost use Prim.Native.Nat.{_≤_, min};
-ghost use Rattle.polar.specs.Sizes.{placesOf, kernelsOf};
+ghost use Rattle.polar_code.specs.Sizes.{placesOf, kernelsOf};
 
 // The number of layers that counts: 8 where there are more.
 fn at_most_8(n: usize) -> usize

@@ -1,0 +1,3 @@
+pub mod MapLaws
+pub mod CodeLaws
+pub mod SizeLaws
