@@ -27,9 +27,9 @@ use Rattle.scms.specs.Halves.{Vectors, decodeTree, frameTree}
 use Rattle.scms.proofs.NodeLaws.{check-zero, check-most, variable-zero, variable-cap}
 use Rattle.scms.proofs.TreeLists.{frame-at}
 use Rattle.scms.proofs.TreeDecoder.{decoded-symbols, word-transform}
-use Rattle.nodes.specs.Parts.{lessFrom}
-use Rattle.nodes.proofs.LowLaws.{scaled-small}
-use Rattle.nodes.proofs.NodeLaws.{llrs-from, count-from}
+use Rattle.variable_node.specs.Parts.{lessFrom}
+use Rattle.reorder.proofs.LowLaws.{scaled-small}
+use Rattle.variable_node.proofs.NodeLaws.{llrs-from, count-from}
 use Rattle.decoder.specs.Parts.{Kept, LayerGiven, KernelsGiven, CheckNodesWritten, FirstSymbols, OrderedGiven, lessAt, AreVariableNodes, clippedTo, VariableNodesWritten, OnePlace, PlaceDecoded, BlockVector, BlockGiven, vectorsFrom, blockAnswer, BlockDecoded, WorkDecoded}
 use Rattle.decoder.proofs.LayerLaws.{source-small}
 use Rattle.decoder.proofs.HalvesLaws.{Step, step}

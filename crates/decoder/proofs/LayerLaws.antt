@@ -7,8 +7,8 @@ use native.Mathlib.Omega.{arith}
 use lib.ListN.{length, getD, length-append}
 use Rattle.vector.specs.Vector.{vectorAt, withVector, stored}
 use Rattle.vector.proofs.SliceLaws.{vector-long, with-long, with-there, with-other, with-append, entries-of, stored-there, stored-long, stored-is, stored-other}
-use Rattle.nodes.specs.Parts.{Small, lowBits}
-use Rattle.nodes.proofs.LowLaws.{low-same}
+use Rattle.reorder.specs.Parts.{Small, lowBits}
+use Rattle.reorder.proofs.LowLaws.{low-same}
 use Rattle.decoder.specs.Parts.{Kept, LayerGiven, OrderedGiven}
 
 -- the vectors g 0, g 1, .., g (t − 1) stand after the block's, and what was before them is as it was

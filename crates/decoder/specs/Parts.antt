@@ -9,7 +9,7 @@ use Rattle.polar.specs.Tree.{leaves, treeOf}
 use Rattle.polar.specs.Halves.{coefsAt}
 use Rattle.polar.specs.Parts.{Block}
 use Rattle.scms.specs.Nodes.{scaled, checkNode, clipped, exceeding, variableNode, clippedEntries}
-use Rattle.nodes.specs.Parts.{lessFrom}
+use Rattle.variable_node.specs.Parts.{lessFrom}
 use Rattle.scms.specs.Decision.{decision}
 use Rattle.scms.specs.Halves.{Vectors, BlockAnswer, decodeTree, frameTree}
 

@@ -53,9 +53,9 @@ pub(crate) fn check_nodes(
     while t < half {
         let theta = load_vector(frame, work, at + t);
         let phi = load_vector(frame, work, at + (half + t));
-        let x = nodes::scaled(&phi, coefs[start + t]);
+        let x = reorder::scaled(&phi, coefs[start + t]);
         vector::store(&x, t, ordered);
-        let r = nodes::check_node(&theta, &x);
+        let r = check_node::check_node(&theta, &x);
         vector::store(&r, to + t, work);
         t += 1;
     }
@@ -81,7 +81,7 @@ pub(crate) fn variable_nodes(
     while t < half {
         let theta = load_vector(frame, work, at + t);
         let x = vector_of(ordered, t);
-        let r = nodes::variable_node(&theta, &x, word[t], cap);
+        let r = variable_node::variable_node(&theta, &x, word[t], cap);
         let llrs = r.llrs;
         vector::store(&llrs, to + t, work);
         count += r.count;

@@ -9,9 +9,10 @@ use Rattle.vector.specs.Vector.{vectorAt}
 use Rattle.polar.proofs.Numbers.{getD-any}
 use Rattle.scms.specs.Nodes.{scaled}
 use Rattle.scms.proofs.NodeLaws.{check-long}
-use Rattle.nodes.specs.Parts.{checkFrom}
-use Rattle.nodes.proofs.LowLaws.{scaled-small}
-use Rattle.nodes.proofs.NodeLaws.{check-from, ordered-low, low-ordered}
+use Rattle.check_node.specs.Parts.{checkFrom}
+use Rattle.reorder.proofs.LowLaws.{scaled-small}
+use Rattle.reorder.proofs.LowLaws.{ordered-low, low-ordered}
+use Rattle.check_node.proofs.NodeLaws.{check-from}
 use Rattle.decoder.specs.Parts.{checkAt, orderedAt}
 use Rattle.decoder.proofs.LayerLaws.{StoredNodes, layer-none, layer-more, source-small, loaded-is, low-is, StoredFirst, first-none, first-more}
 use Rattle.decoder.proofs.layers.check_nodes.Statement.{statement}

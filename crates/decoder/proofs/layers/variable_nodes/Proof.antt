@@ -9,8 +9,9 @@ use Rattle.vector.specs.Vector.{sumTo}
 use Rattle.vector.proofs.Laws.{sum-more}
 use Rattle.gf64.proofs.ProductLaws.{low-symbol}
 use Rattle.scms.specs.Nodes.{clipped, exceeding}
-use Rattle.nodes.specs.Parts.{lowBits, lessFrom}
-use Rattle.nodes.proofs.NodeLaws.{clipped-long}
+use Rattle.reorder.specs.Parts.{lowBits}
+use Rattle.variable_node.specs.Parts.{lessFrom}
+use Rattle.variable_node.proofs.NodeLaws.{clipped-long}
 use Rattle.decoder.specs.Parts.{lessAt}
 use Rattle.decoder.proofs.LayerLaws.{StoredNodes, layer-none, layer-more, low-is, low-first}
 use Rattle.decoder.proofs.layers.variable_nodes.Statement.{statement}

@@ -1,0 +1,50 @@
+-- `all_steps` meets its contract: the values of the halves before this one have taken their steps.
+use Prim.Native.Nat.{ℕ, _+_, _-_, _*_, _≤_}
+use native.Mathlib.Omega.{arith}
+use borrow.Author.Needs.{needs}
+use mathlib.Core.Path.{sym, subst}
+use Rattle.reorder.specs.Parts.{Mapped}
+use Rattle.check_node.specs.Steps.{Held, stepsAt}
+use Rattle.reorder.proofs.MapLaws.{map-none, map-join, map-all}
+use Rattle.check_node.proofs.steps.all_steps.Statement.{statement}
+use Rattle.check_node.proofs.steps.all_steps.Tie as tie
+
+abbrev Inv-loop : tie.InvT-loop
+Inv-loop copies x q y r₀ half₀ r half = Mapped (stepsAt copies x q y) 0 (32 * half) r₀ r × (half ≤ 2)
+
+abbrev μ-loop : tie.MeasureT-loop
+μ-loop copies x q y r₀ half₀ r half = 2 - half
+
+loop-holds : tie.Need-loop-holds Inv-loop μ-loop
+loop-holds c = (map-none (omega arith) (c .pre .2), omega arith)
+
+half-steps-requires : tie.Need-half-steps-requires Inv-loop μ-loop
+half-steps-requires c κs =
+    let head = c .before in
+    let start = head .before in
+    let at = head .loop in
+    let y = start .args .y in (
+      start .pre .0,
+      start .pre .1,
+      omega arith,
+      at .inv .0 .long,
+      λ b l m. subst (λ (k : ℕ). Held (k + y)) (sym (at .inv .0 .later b m)) (start .pre .3 b l),
+    )
+
+add-half : tie.Need-add-half Inv-loop μ-loop
+add-half c = search needs
+
+loop-less : tie.Need-loop-less Inv-loop μ-loop
+loop-less c = search needs
+
+loop-again : tie.Need-loop-again Inv-loop μ-loop
+loop-again c =
+    let at = c .before .before .loop in
+    (map-all (map-join (omega arith) (omega arith) (at .inv .0) (c .half-steps .ensures)) (omega arith), omega arith)
+
+returns : tie.Need-returns Inv-loop μ-loop
+returns c = map-all (c .before .loop .inv .0) (omega arith)
+
+pub all-steps-spec : {M : Type 1} → statement M
+all-steps-spec =
+    tie.close (tie.spec Inv-loop μ-loop loop-holds half-steps-requires add-half loop-less loop-again returns)

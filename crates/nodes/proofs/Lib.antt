@@ -1,7 +1,0 @@
-pub mod LowLaws
-pub mod NodeLaws
-pub mod CopyLaws
-pub mod StepLaws
-pub mod SignedLaws
-pub mod LeastLaws
-pub mod TurnLaws

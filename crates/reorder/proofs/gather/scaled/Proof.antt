@@ -1,0 +1,34 @@
+-- `scaled` meets its contract: each product that is read is a symbol.
+use mathlib.Core.Path.{sym, ap, _∙_, subst}
+use mathlib.Core.List.{List}
+use Prim.Native.Nat.{ℕ, _%_, _<_}
+use borrow.Author.Needs.{needs}
+use lib.ListN.{getD}
+use Rattle.vector.proofs.Laws.{tabulate-ext}
+use Rattle.gf64.proofs.ProductLaws.{product-lt}
+use Rattle.gf64.proofs.MultipleLaws.{multiples-at}
+use Rattle.scms.specs.Nodes.{scaled}
+use Rattle.reorder.proofs.LowLaws.{low-at}
+use Rattle.reorder.proofs.gather.scaled.Statement.{statement}
+use Rattle.reorder.proofs.gather.scaled.Tie as tie
+
+multiples-requires : tie.Need-multiples-requires
+multiples-requires c κs = search needs
+
+gathered-requires : tie.Need-gathered-requires
+gathered-requires c κs =
+    let h = c .before .before .args .h in
+    λ k l. subst (λ (z : ℕ). z < 64) (sym (ap (λ (v : List ℕ). getD v k 0) (c .before .multiples .ensures) ∙ multiples-at h k l)) (product-lt _ _)
+
+returns : tie.Need-returns
+unfolding scaled
+returns c =
+    let a = c .before .before .before .args in
+    let phi = a .phi .now in
+    c .gathered .ensures
+    ∙ tabulate-ext 64 _ _ (λ k l.
+    ap (λ (z : ℕ). getD phi z 0 % 8192) (ap (λ (v : List ℕ). getD v k 0) (c .before .before .multiples .ensures) ∙ multiples-at (a .h) k l)
+    ∙ sym (low-at phi _ (product-lt _ _)))
+
+pub scaled-spec : {M : Type 1} → statement M
+scaled-spec = tie.close (tie.spec multiples-requires gathered-requires returns)

@@ -1,0 +1,52 @@
+-- `swapped` meets its contract: the blocks before this one are written.
+use Prim.Native.Nat.{_-_, _*_, _%_, _≤_}
+use native.Mathlib.Omega.{arith}
+use borrow.Author.Needs.{needs}
+use mathlib.Core.Path.{refl}
+use lib.ListN.{getD}
+use Rattle.vector.proofs.Laws.{tabulate-by}
+use Rattle.gf64.specs.Field.{_⊕_}
+use Rattle.reorder.specs.Parts.{Mapped, swapped}
+use Rattle.reorder.proofs.MapLaws.{map-none, map-join, map-all}
+use Rattle.reorder.proofs.swap.swapped.Statement.{statement}
+use Rattle.reorder.proofs.swap.swapped.Tie as tie
+
+abbrev Inv-loop : tie.InvT-loop
+Inv-loop v run by r₀ block₀ r block = Mapped (λ b _. getD v (b ⊕ (run % 8)) 0) 0 (8 * block) r₀ r × (block ≤ 8)
+
+abbrev μ-loop : tie.MeasureT-loop
+μ-loop v run by r₀ block₀ r block = 8 - block
+
+loop-holds : tie.Need-loop-holds Inv-loop μ-loop
+loop-holds c = (map-none (omega arith) refl, omega arith)
+
+swapped-block-requires : tie.Need-swapped-block-requires Inv-loop μ-loop
+swapped-block-requires c κs = (omega arith, omega arith, c .before .loop .inv .0 .long)
+
+add-block : tie.Need-add-block Inv-loop μ-loop
+add-block c = search needs
+
+loop-less : tie.Need-loop-less Inv-loop μ-loop
+loop-less c = search needs
+
+loop-again : tie.Need-loop-again Inv-loop μ-loop
+loop-again c = (map-all (map-join (omega arith) (omega arith) (c .before .before .loop .inv .0) (c .swapped-block .ensures)) (omega arith), omega arith)
+
+returns : tie.Need-returns Inv-loop μ-loop
+unfolding swapped
+returns c =
+    let m = c .before .loop .inv .0 in
+    tabulate-by 0 64 _ _ (m .long) (λ i l. m .done i (omega arith) (omega arith))
+
+pub swapped-spec : {M : Type 1} → statement M
+swapped-spec =
+    tie.close
+    (tie.spec
+    Inv-loop
+    μ-loop
+    loop-holds
+    swapped-block-requires
+    add-block
+    loop-less
+    loop-again
+    returns)
