@@ -1,10 +1,10 @@
 // The decoder by halves: a block of 2^layers places, decoded by decoding its first half from check nodes and then its second half from
 // variable nodes. The vectors of the frame and after them those of the work buffer are numbered from 0 on: a block's own are those from number
 // `at` on, and its halves use those after them.
-use crate::decision::decide;
 use crate::layers::check_nodes;
 use crate::layers::load_vector;
 use crate::layers::variable_nodes;
+use decision::decide;
 ghost use Rattle.decoder.specs.Parts.{OnePlace, PlaceDecoded, BlockGiven, WorkDecoded};
 
 // One place: its symbol is decided from its vector, and the vector is reported.

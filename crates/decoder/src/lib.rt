@@ -1,7 +1,5 @@
-// The SC-MS decoder (successive cancellation, min-sum) of polar codes over GF(64): the nodes of a layer, its decision, the decoder by halves,
-// and the call.
+// The SC-MS decoder (successive cancellation, min-sum) of polar codes over GF(64): the nodes of a layer, the decoder by halves, and the call.
 mod block;
-mod decision;
 mod decoder;
 mod layers;
 

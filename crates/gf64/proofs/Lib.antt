@@ -1,4 +1,3 @@
 pub mod SumLaws
 pub mod Table
 pub mod ProductLaws
-pub mod MultipleLaws

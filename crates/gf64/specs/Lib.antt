@@ -1,3 +1,2 @@
 pub mod Field
 pub mod Formula
-pub mod Multiples

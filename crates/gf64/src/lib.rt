@@ -4,10 +4,6 @@ ghost use Prim.Native.Nat.{_<_};
 ghost use Rattle.gf64.specs.Field.{IsProduct};
 ghost use Rattle.gf64.specs.Formula.{unreduced, reduced};
 
-mod products;
-
-pub use products::multiples;
-
 // The product of two polynomials, not reduced. The even and the odd powers are multiplied apart: so each sum of bits has room for its carry.
 fn unreduced(x: u8, y: u8) -> u16
     ensures { λ r. ⌜ r ≡ unreduced x y ⌝ }

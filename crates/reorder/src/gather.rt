@@ -28,6 +28,6 @@ fn gathered(v: &[u16; 64], products: &[u8; 64]) -> [u16; 64]
 pub fn scaled(phi: &[u16; 64], h: u8) -> [u16; 64]
     ensures { λ r. ⌜ r ≡ scaled h (lowBits (now (phi .entry))) ⌝ }
 {
-    let products = gf64::multiples(h);
+    let products = multiples::multiples(h);
     gathered(phi, &products)
 }

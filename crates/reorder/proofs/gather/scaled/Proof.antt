@@ -6,7 +6,7 @@ use borrow.Author.Needs.{needs}
 use lib.ListN.{getD}
 use Rattle.vector.proofs.Laws.{tabulate-ext}
 use Rattle.gf64.proofs.ProductLaws.{product-lt}
-use Rattle.gf64.proofs.MultipleLaws.{multiples-at}
+use Rattle.multiples.proofs.MultipleLaws.{multiples-at}
 use Rattle.scms.specs.Nodes.{scaled}
 use Rattle.reorder.proofs.LowLaws.{low-at}
 use Rattle.reorder.proofs.gather.scaled.Statement.{statement}

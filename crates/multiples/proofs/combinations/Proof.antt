@@ -4,10 +4,10 @@ use Prim.Native.Nat.{_-_}
 use native.Mathlib.Omega.{arith}
 use borrow.Author.Needs.{needs}
 use Rattle.vector.proofs.Laws.{Filled, fill-none, fill-more, fill-all}
 use Rattle.gf64.specs.Field.{_⊕_}
-use Rattle.gf64.specs.Multiples.{combined}
-use Rattle.gf64.proofs.products.combinations.Statement.{statement}
-use Rattle.gf64.proofs.products.combinations.Tie as tie
+use Rattle.multiples.specs.Multiples.{combined}
+use Rattle.multiples.proofs.combinations.Statement.{statement}
+use Rattle.multiples.proofs.combinations.Tie as tie
 
 abbrev Inv-loop : tie.InvT-loop
 Inv-loop a b d e f g r₀ c₀ r c = Filled 64 (combined a b d e f g) r c

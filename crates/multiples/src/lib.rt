@@ -2,8 +2,8 @@
 ghost use mathlib.Core.Path.{_≡_};
 ghost use Prim.Native.Nat.{_<_};
 ghost use Rattle.vector.specs.Vector.{tabulate};
 ghost use Rattle.gf64.specs.Field.{_⊙_, timesA};
-ghost use Rattle.gf64.specs.Multiples.{part, combined};
+ghost use Rattle.multiples.specs.Multiples.{part, combined};
 
 // a times a symbol.
 fn times_a(x: u8) -> u8

@@ -20,7 +20,7 @@ fn smallest(v: &[u16; 64]) -> u8
 
 // The symbol of a place with this map byte: byte 0 is a message place, which takes the smallest value whose penalty is least; any other
 // byte is a frozen place, which holds 0.
-pub(crate) fn decide(byte: u8, v: [u16; 64]) -> u8
+pub fn decide(byte: u8, v: [u16; 64]) -> u8
     ensures { λ r. ⌜ r ≡ decision (kindOf byte) v ⌝ }
 {
     if byte == 0 { smallest(&v) } else { 0 }

@@ -5,8 +5,8 @@ use borrow.Author.Needs.{needs}
 use borrow.Author.Tests.{eq-eqb, ne-eqb}
 use Rattle.polar_code.specs.Code.{kindOf, message, frozen}
 use Rattle.scms.specs.Decision.{decision}
-use Rattle.decoder.proofs.decision.decide.Statement.{statement}
-use Rattle.decoder.proofs.decision.decide.Tie as tie
+use Rattle.decision.proofs.decide.Statement.{statement}
+use Rattle.decision.proofs.decide.Tie as tie
 
 smallest-requires : tie.Need-smallest-requires
 smallest-requires c κs = search needs

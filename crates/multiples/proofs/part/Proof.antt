@@ -3,9 +3,9 @@ use mathlib.Core.Path.{sym, ap}
 use mathlib.Core.Bool.{Bool, cond}
 use borrow.Author.Needs.{needs}
 use borrow.Author.Tests.{eq-eqb, ne-eqb}
-use Rattle.gf64.specs.Multiples.{part}
-use Rattle.gf64.proofs.products.part.Statement.{statement}
-use Rattle.gf64.proofs.products.part.Tie as tie
+use Rattle.multiples.specs.Multiples.{part}
+use Rattle.multiples.proofs.part.Statement.{statement}
+use Rattle.multiples.proofs.part.Tie as tie
 
 div-if1 : tie.Need-div-if1
 div-if1 c = search needs

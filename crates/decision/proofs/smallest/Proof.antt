@@ -5,9 +5,9 @@ use native.Mathlib.Omega.{arith}
 use borrow.Author.Count.{below-more}
 use borrow.Author.Needs.{needs}
 use lib.ListN.{getD}
-use Rattle.decoder.proofs.Laws.{smallest-found, smallest-last}
-use Rattle.decoder.proofs.decision.smallest.Statement.{statement}
-use Rattle.decoder.proofs.decision.smallest.Tie as tie
+use Rattle.decision.proofs.Laws.{smallest-found, smallest-last}
+use Rattle.decision.proofs.smallest.Statement.{statement}
+use Rattle.decision.proofs.smallest.Tie as tie
 
 abbrev Inv-loop : tie.InvT-loop
 Inv-loop v least b₀ b = (b ≤ 63) × ((k : ℕ) → k < b → getD v k 0 ≡ least → ⊥)

@@ -1,9 +1,9 @@
 -- `multiples` meets its contract: its six numbers are the products with 1, a, .., a^5.
 use mathlib.Core.Path.{_∙_}
 use borrow.Author.Needs.{needs}
-use Rattle.gf64.proofs.MultipleLaws.{all-multiples}
-use Rattle.gf64.proofs.products.multiples.Statement.{statement}
-use Rattle.gf64.proofs.products.multiples.Tie as tie
+use Rattle.multiples.proofs.MultipleLaws.{all-multiples}
+use Rattle.multiples.proofs.multiples.Statement.{statement}
+use Rattle.multiples.proofs.multiples.Tie as tie
 
 times-a-requires : tie.Need-times-a-requires
 times-a-requires c κs = search needs

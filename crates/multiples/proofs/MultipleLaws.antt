@@ -7,10 +7,10 @@ use lib.Dec.{T, eqb, eqb→eq, lit<}
 use lib.ListN.{getD}
 use Rattle.vector.specs.Vector.{tabulate}
 use Rattle.vector.proofs.Laws.{getD-tabulate, tabulate-ext}
 use Rattle.gf64.specs.Field.{_⊕_, _⊙_, timesA, lowSix}
-use Rattle.gf64.specs.Multiples.{part, combined}
+use Rattle.multiples.specs.Multiples.{part, combined}
 use Rattle.gf64.proofs.ProductLaws.{product-one, product-sum, product-zero, product-a}
 use Rattle.gf64.proofs.Table.{all, all-at}
 
 -- ---- sums of six
 
