@@ -2,7 +2,7 @@
 // A slice is two arguments in C, a pointer to its first element and the number of elements.
 use decoder::Answer;
 ghost use Rattle.polar.specs.Encode.{Encoded};
-ghost use Rattle.ccsk.specs.Demap.{Demapped};
+ghost use Rattle.demapper.specs.Demap.{Demapped};
 ghost use Rattle.c_calls.specs.Calls.{DecodeCalled};
 
 // Encodes a message, as `polar::encode`. Returns 0, with the codeword in the buffer lent for it; or the lowest refusal of 1, 2, 4, 5, 6 and 7 that
@@ -20,7 +20,7 @@ pub extern "C" fn zithejo_encode(
     polar::encode(n, map, coefs, message, codeword)
 }
 
-// Weighs samples into penalties, as `ccsk::demap`. Returns 0, with the penalties in the buffer lent for them; or the lowest refusal of 2, 3, 10 and 11
+// Weighs samples into penalties, as `demapper::demap`. Returns 0, with the penalties in the buffer lent for them; or the lowest refusal of 2, 3, 10 and 11
 // that fits, and leaves the buffer as it came.
 #[no_mangle]
 pub extern "C" fn zithejo_demap(
@@ -33,7 +33,7 @@ pub extern "C" fn zithejo_demap(
 ) -> u8
     ensures { λ r. ⌜ Demapped base top bottom qc (now (samples .entry)) (now (llrs .entry)) (now (llrs .exit)) r ⌝ }
 {
-    ccsk::demap(base, samples, top, bottom, qc, llrs)
+    demapper::demap(base, samples, top, bottom, qc, llrs)
 }
 
 // Decodes a frame, as `decoder::decode`. Returns 0, with the symbols, the report and the count of clipped entries in the places lent for them, and the

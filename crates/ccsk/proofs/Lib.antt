@@ -1,10 +1,5 @@
 pub mod ChipLaws
 pub mod BaseLaws
-pub mod SignedLaws
-pub mod LlrLaws
 pub mod PartLaws
-pub mod FrameLaws
 pub mod DistanceLaws
-pub mod NoiselessLaws
 pub mod SpreadLaws
-pub mod DemapLaws

@@ -1,6 +1,5 @@
 // The chips of the base sequence.
 ghost use mathlib.Core.Path.{_≡_};
-ghost use Rattle.ccsk.specs.Parts.{chipsTwice};
 ghost use Rattle.ccsk.specs.Chips.{turned};
 
 // A base turned by s chips, for any base and any s: chip k of the result is base chip (k + s) mod 64. For a symbol s it is the number that the
@@ -11,18 +10,4 @@ pub fn turned(base: u64, s: u64) -> u64
     let down = s % 64;
     let up = (64 - down) % 64;
     (base >> down) | (base << up)
-}
-
-// The chips of the base twice over, 0 or 1 each, so that the chips of a symbol s are 64 neighbours from s on.
-pub(crate) fn chips_twice(base: u64) -> [u16; 128]
-    ensures { λ r. ⌜ r ≡ chipsTwice base ⌝ }
-{
-    let mut chips = [0u16; 128];
-    let mut j: usize = 0;
-    while j < 128 {
-        let k = (j % 64) as u64;
-        chips[j] = ((base >> k) % 2) as u16;
-        j += 1;
-    }
-    chips
 }

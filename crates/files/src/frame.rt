@@ -18,11 +18,11 @@ fn feed_file(fd: i32, frame: &mut [u16]) -> u8
         let at = 64 * place;
         let end = at + 64;
         let got = read_some(fd, &mut line);
-        verdict = sheet::feed_line(verdict, &line[..got], &mut frame[at..end]);
+        verdict = frame_file::feed_line(verdict, &line[..got], &mut frame[at..end]);
         place += 1;
     }
     let left = read_some(fd, &mut line[..1]) > 0;
-    sheet::end_frame(verdict, left)
+    frame_file::end_frame(verdict, left)
 }
 
 // Reads frame.txt into the frame, which has 64 numbers for each place of the code. Returns the refusal, 0 where the file is taken.

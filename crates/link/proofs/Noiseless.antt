@@ -15,10 +15,10 @@ use Rattle.polar.specs.Message.{messageOf}
 use Rattle.polar.proofs.MessageLaws.{word-frozen, message-back}
 use Rattle.polar.proofs.EncodeLaws.{before-word, codeword-word}
 use Rattle.ccsk.specs.Chips.{differing}
-use Rattle.ccsk.specs.Samples.{llrs}
-use Rattle.ccsk.specs.Demap.{frameOf}
-use Rattle.ccsk.specs.Noiseless.{sentSymbol, sentLlr, Premise, Apart}
-use Rattle.ccsk.proofs.NoiselessLaws.{numbers-sent, sent-vector, premise-apart, apart-premise, clean}
+use Rattle.demapper.specs.Samples.{llrs}
+use Rattle.demapper.specs.Demap.{frameOf}
+use Rattle.demapper.specs.Noiseless.{sentSymbol, sentLlr, Premise, Apart}
+use Rattle.demapper.proofs.NoiselessLaws.{numbers-sent, sent-vector, premise-apart, apart-premise, clean}
 use Rattle.ccsk.proofs.DistanceLaws.{two-differ}
 use Rattle.scms.specs.Decoder.{capOf}
 use Rattle.scms.specs.Totals.{InCode}

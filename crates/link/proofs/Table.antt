@@ -18,9 +18,9 @@ use Rattle.polar.specs.Encode.{symbolAt, restAfter, wordBefore, codewordOf}
 use Rattle.polar.specs.Message.{withPlace, messageOf}
 use Rattle.ccsk.specs.Chips.{chip, symbolChip, turned, differing}
 use Rattle.ccsk.specs.Spread.{numbersOf, spreadRefusal}
-use Rattle.ccsk.specs.Samples.{hardChip, magnitude, added, raw, rawLlrs, quantised, quantisedLlrs, llrs}
-use Rattle.ccsk.specs.Demap.{frameOf, demapRefusal}
-use Rattle.ccsk.specs.Noiseless.{sentSample, sentSymbol, numberSamples}
+use Rattle.demapper.specs.Samples.{hardChip, magnitude, added, raw, rawLlrs, quantised, quantisedLlrs, llrs}
+use Rattle.demapper.specs.Demap.{frameOf, demapRefusal}
+use Rattle.demapper.specs.Noiseless.{sentSample, sentSymbol, numberSamples}
 use Rattle.scms.specs.Nodes.{scaled, checkNode, sums, subtractLeast, clipped, exceeding, lowered, variableNode, clippedEntries}
 use Rattle.scms.specs.Decision.{smallestTo, smallest, decision}
 use Rattle.scms.specs.Decoder.{capOf, nodes, thetaSymbol, vectors, thetaVector, phiVector, loweredAt, clippedAt, clipCount, heldAt, decidedTo, held, symbols, report, count}

@@ -18,14 +18,14 @@ use Rattle.vector.proofs.Laws.{length-tabulate, getD-tabulate}
 use Rattle.polar.specs.Encode.{codewordOf, encodeRefusal, encodeBuffer, Encodable, Encoded}
 use Rattle.polar.proofs.EncodeLaws as encode
 use Rattle.ccsk.specs.Chips.{chip, turned}
-use Rattle.ccsk.specs.Samples.{magnitude}
+use Rattle.demapper.specs.Samples.{magnitude}
 use Rattle.ccsk.specs.Spread.{numbersOf, spreadRefusal, spreadBuffer, Spreadable, Spread}
-use Rattle.ccsk.specs.Demap.{frameOf, demapRefusal, demapBuffer, Demapped}
-use Rattle.ccsk.specs.Noiseless.{sentSample, numberSamples}
+use Rattle.demapper.specs.Demap.{frameOf, demapRefusal, demapBuffer, Demapped}
+use Rattle.demapper.specs.Noiseless.{sentSample, numberSamples}
 use Rattle.ccsk.proofs.SpreadLaws as spread
-use Rattle.ccsk.proofs.DemapLaws as demap
-use Rattle.ccsk.proofs.FrameLaws.{length-frame, frame-fits}
-use Rattle.ccsk.proofs.NoiselessLaws.{sent-magnitude, samples-flat}
+use Rattle.demapper.proofs.DemapLaws as demap
+use Rattle.demapper.proofs.FrameLaws.{length-frame, frame-fits}
+use Rattle.demapper.proofs.NoiselessLaws.{sent-magnitude, samples-flat}
 use Rattle.decoder_refusal.specs.Refusals.{sizeTable, contentTable, decodeRefusal}
 use Rattle.decoder_refusal.proofs.RefusalLaws.{small-frame, zeros-frame, size-refused, size-taken}
 use Rattle.decoder_refusal.proofs.RefusalLaws as decode

@@ -12,8 +12,8 @@ use Rattle.polar.specs.Encode.{wordBefore, codewordOf}
 use Rattle.polar.specs.Message.{messageOf}
 use Rattle.ccsk.specs.Chips.{turned}
 use Rattle.ccsk.specs.Spread.{numbersOf}
-use Rattle.ccsk.specs.Demap.{frameOf}
-use Rattle.ccsk.specs.Noiseless.{numberSamples, Apart}
+use Rattle.demapper.specs.Demap.{frameOf}
+use Rattle.demapper.specs.Noiseless.{numberSamples, Apart}
 use Rattle.scms.specs.Decoder.{capOf, symbols}
 
 -- a code, a message, a base and an amplitude that are not refused

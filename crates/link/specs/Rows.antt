@@ -12,8 +12,8 @@ use Rattle.polar.specs.Encode.{codewordOf}
 use Rattle.polar.specs.Message.{messageOf}
 use Rattle.ccsk.specs.Chips.{symbolChip, turned}
 use Rattle.ccsk.specs.Spread.{spreadRefusal}
-use Rattle.ccsk.specs.Demap.{frameOf, demapRefusal}
-use Rattle.ccsk.specs.Noiseless.{sentSymbol}
+use Rattle.demapper.specs.Demap.{frameOf, demapRefusal}
+use Rattle.demapper.specs.Noiseless.{sentSymbol}
 use Rattle.scms.specs.Decoder.{capOf, held, symbols, report, count}
 use Rattle.columns.specs.Columns.{line}
 use Rattle.sheet.specs.CodeSheet.{sheetLayers, sheetMap, sheetCoefs, formTable, sheetRefusal}

@@ -11,9 +11,9 @@ use Rattle.polar_code.specs.Code.{IsCode}
 use Rattle.polar.specs.Encode.{Encoded}
 use Rattle.ccsk.specs.Chips.{turned}
 use Rattle.ccsk.specs.Spread.{spreadRefusal, Spread}
-use Rattle.ccsk.specs.Samples.{magnitude}
-use Rattle.ccsk.specs.Demap.{demapRefusal, Demapped}
-use Rattle.ccsk.specs.Noiseless.{numberSamples}
+use Rattle.demapper.specs.Samples.{magnitude}
+use Rattle.demapper.specs.Demap.{demapRefusal, Demapped}
+use Rattle.demapper.specs.Noiseless.{numberSamples}
 use Rattle.sheet.specs.CodeSheet.{SheetRead}
 use Rattle.sheet.specs.declared.code_sheet.Answer.the-variants.{Layers}
 use Rattle.decoder_refusal.specs.Refusals.{decodeRefusal}

@@ -9,7 +9,7 @@ use lib.IntN.{ℤ, pos, negsuc, negℤ, _-ℤ_}
 use mir.Syntax.{w8}
 use mir.Val.{toZ, ofZ, SFits}
 use mir.ValLaws.{toZ-ofZ}
-use Rattle.ccsk.specs.Noiseless.{sentSample}
+use Rattle.demapper.specs.Noiseless.{sentSample}
 
 -- an amplitude, taken off 0, is its negative
 off-zero : (a : ℕ) → pos 0 -ℤ pos a ≡ negℤ (pos a)

@@ -6,7 +6,7 @@ use lib.IntN.{ℤ}
 use Rattle.polar.specs.Encode.{Encoded}
 use Rattle.polar.proofs.EncodeLaws.{takes}
 use Rattle.ccsk.specs.Spread.{numbersOf, Spread}
-use Rattle.ccsk.specs.Noiseless.{numberSamples}
+use Rattle.demapper.specs.Noiseless.{numberSamples}
 use Rattle.link.specs.Noiseless.{messageSamples}
 use Rattle.link.proofs.Taken.{is-codeword, codeword-long, spread-takes, is-numbers}
 use Rattle.loopback.specs.Parts.{SendingWith}

@@ -9,7 +9,7 @@ use lib.Pow.{pow-mono, pow-pos}
 use Rattle.refusal.specs.Tests.{Within}
 use Rattle.refusal.proofs.Laws.{when-taken, when-refused}
 use Rattle.polar.specs.Message.{messageOf}
-use Rattle.ccsk.specs.Demap.{frameOf, Demapped}
+use Rattle.demapper.specs.Demap.{frameOf, Demapped}
 use Rattle.scms.specs.Decoder as scms
 use Rattle.decoder_refusal.specs.Refusals.{decodeRefusal}
 use Rattle.decoder.specs.declared.decoder.Answer.{Answer}

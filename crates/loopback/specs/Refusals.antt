@@ -9,7 +9,7 @@ use Rattle.refusal.specs.Tests.{outside}
 use Rattle.refusal.specs.Rows.{lengthRow, qcRow, symbolsRow}
 use Rattle.polar_code.specs.Code.{messagePlaces, layersRow, mapRow, emptyRow, coefsRow}
 use Rattle.ccsk.specs.Chips.{baseRow}
-use Rattle.ccsk.specs.Demap.{gainRow}
+use Rattle.demapper.specs.Demap.{gainRow}
 use Rattle.decoder_refusal.specs.Refusals.{qmRow}
 use Rattle.link.specs.Noiseless.{ChainInput}
 

@@ -112,7 +112,7 @@ pub fn round_trip(
         return Answer::Refused(refused);
     }
     send(n, map, coefs, message, base, amplitude, samples);
-    ccsk::demap(base, samples, top, bottom, qc, frame);
+    demapper::demap(base, samples, top, bottom, qc, frame);
     let answer = decoder::decode(n, map, coefs, qc, qm, frame, work, symbols, report);
     read_message(map, symbols, decoded);
     answer

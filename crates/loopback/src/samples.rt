@@ -2,7 +2,7 @@
 ghost use mathlib.Core.Path.{_≡_};
 ghost use Prim.Native.Nat.{_≤_, _<_};
 ghost use Rattle.ccsk.specs.Chips.{chip};
-ghost use Rattle.ccsk.specs.Noiseless.{sentSample, numberSamples};
+ghost use Rattle.demapper.specs.Noiseless.{sentSample, numberSamples};
 ghost use Rattle.loopback.specs.Parts.{Sampling};
 
 // The sample of chip k of a number: +A at a chip 0 and -A at a chip 1, A the amplitude.

@@ -35,7 +35,7 @@ fn demap_line(
     place: usize,
 ) {
     io::write_all(STDOUT_FILENO, b"d");
-    let answer = ccsk::demap(base, samples, top, bottom, qc, llrs);
+    let answer = demapper::demap(base, samples, top, bottom, qc, llrs);
     print_number(answer as u64);
     let mut kept: u64 = 0;
     let mut i: usize = 0;

@@ -19,7 +19,7 @@ pub(crate) fn weigh_fields(
     line: &mut [u8],
 ) -> u64 {
     let last = draw_samples(case, numbers, samples);
-    let answer = ccsk::demap(case.base, samples, case.top, case.bottom, case.qc, frame);
+    let answer = demapper::demap(case.base, samples, case.top, case.bottom, case.qc, frame);
     put_field(line, 7, answer as u64);
     put_field(line, 8, checksum(frame));
     last

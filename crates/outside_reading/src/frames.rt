@@ -26,7 +26,7 @@ pub(crate) fn run_line(bytes: &[u8], length: usize) {
 // Feeds a line to an output, which is filled before, and prints the verdict and a checksum of the output. Returns the verdict.
 fn feed_into(verdict: u8, line: &[u8], output: &mut [u16]) -> u8 {
     fill_numbers(output);
-    let next = sheet::feed_line(verdict, line, output);
+    let next = frame_file::feed_line(verdict, line, output);
     print_number(next as u64);
     print_number(checksum(output));
     next
@@ -69,6 +69,6 @@ pub(crate) fn run_file(bytes: &[u8], lines: usize, short: usize) {
     print_bytes(b"f");
     let verdict = feed_lines(bytes, lines, short);
     let left = lines % 65536 * 257 < bytes.len();
-    print_number(sheet::end_frame(verdict, left) as u64);
+    print_number(frame_file::end_frame(verdict, left) as u64);
     print_bytes(b"\n");
 }

@@ -1,3 +1,3 @@
 pub mod NumberLaws
-pub mod FrameLaws
+pub mod LineLaws
 pub mod SheetLaws

@@ -1,4 +1,3 @@
 pub mod CodeSheet
 pub mod FrameLine
-pub mod FrameFile
 pub mod Parts

@@ -18,7 +18,7 @@ fn print_weighed(bottom: u32) {
     let mut samples = [10i8; 64];
     let mut llrs = [0u16; 64];
     samples[0] = -10;
-    let answer = ccsk::demap(1, &samples, 1, bottom, 3, &mut llrs);
+    let answer = demapper::demap(1, &samples, 1, bottom, 3, &mut llrs);
     io::print_decimal(STDOUT_FILENO, answer as u64);
     print_llrs(ccsk::place_llrs(&llrs, 0));
 }

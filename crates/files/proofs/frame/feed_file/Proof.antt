@@ -9,7 +9,7 @@ use lib.ListN.{length}
 use lib.Seq.{length-take-le}
 use Rattle.vector.specs.Vector.{vectorAt, AtMost, HasZero}
 use Rattle.files.specs.Printed.{FrameNumber}
-use Rattle.sheet.proofs.FrameLaws.{fed-number, end-number, fed-penalties, end-zero}
+use Rattle.frame_file.proofs.FrameLaws.{fed-number, end-number, fed-penalties, end-zero}
 use Rattle.files.proofs.PartLaws.{place-long, penalties-more}
 use borrow.Author.Needs.{needs}
 use Rattle.files.proofs.frame.feed_file.Statement.{statement}

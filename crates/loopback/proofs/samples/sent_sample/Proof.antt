@@ -8,7 +8,7 @@ use mir.Syntax.{w8}
 use mir.Val.{toZ}
 use mir.ValLaws.{toZ-ofZ}
 use Rattle.ccsk.specs.Chips.{chip}
-use Rattle.ccsk.specs.Noiseless.{sentSample}
+use Rattle.demapper.specs.Noiseless.{sentSample}
 use Rattle.loopback.proofs.SampleLaws.{plain, negated, negated-fits}
 use Rattle.loopback.proofs.samples.sent_sample.Statement.{statement}
 use Rattle.loopback.proofs.samples.sent_sample.Tie as tie

@@ -9,8 +9,8 @@ use mir.Syntax.{w8}
 use mir.Val.{toZ, ofZ}
 use Rattle.vector.proofs.Laws.{Filled, fill-none, fill-more, fill-all}
 use Rattle.ccsk.specs.Chips.{chip}
-use Rattle.ccsk.specs.Noiseless.{sentSample}
-use Rattle.ccsk.proofs.NoiselessLaws.{samples-flat}
+use Rattle.demapper.specs.Noiseless.{sentSample}
+use Rattle.demapper.proofs.NoiselessLaws.{samples-flat}
 use Rattle.loopback.proofs.SampleLaws.{stored}
 use Rattle.loopback.proofs.samples.write_samples.Statement.{statement}
 use Rattle.loopback.proofs.samples.write_samples.Tie as tie

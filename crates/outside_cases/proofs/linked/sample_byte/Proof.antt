@@ -11,7 +11,7 @@ use lib.Signed.{nonNeg}
 use mir.Syntax.{w8, w16, w64}
 use mir.Val.{toZ, ofZ, Fits, SFits}
 use mir.ValLaws.{toZ-ofZ}
-use Rattle.ccsk.proofs.SignedLaws.{plain, widened}
+use Rattle.demapper.proofs.SignedLaws.{plain, widened}
 use Rattle.outside_cases.proofs.linked.sample_byte.Statement.{statement}
 use Rattle.outside_cases.proofs.linked.sample_byte.Tie as tie
 

@@ -6,7 +6,7 @@ use borrow.Author.Tests.{not-false}
 use Rattle.refusal.proofs.Laws.{none, here, later}
 use Rattle.refusal.proofs.Within.{unequal-true, equal-false}
 use Rattle.sheet.specs.FrameLine.{lineLlrs}
-use Rattle.sheet.proofs.FrameLaws.{line-refused, line-taken}
+use Rattle.sheet.proofs.LineLaws.{line-refused, line-taken}
 use borrow.Author.Needs.{needs}
 use Rattle.sheet.proofs.frame_line.read_frame_line.Statement.{statement}
 use Rattle.sheet.proofs.frame_line.read_frame_line.Tie as tie

@@ -1,0 +1,5 @@
+pub mod SignedLaws
+pub mod LlrLaws
+pub mod FrameLaws
+pub mod NoiselessLaws
+pub mod DemapLaws

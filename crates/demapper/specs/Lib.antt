@@ -1,0 +1,4 @@
+pub mod Samples
+pub mod Demap
+pub mod Noiseless
+pub mod Parts
