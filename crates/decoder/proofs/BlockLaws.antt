@@ -28,7 +28,7 @@ use Rattle.scms.proofs.NodeLaws.{check-zero, check-most, variable-zero, variabl
 use Rattle.scms.proofs.TreeLists.{frame-at}
 use Rattle.scms.proofs.TreeDecoder.{decoded-symbols, word-transform}
 use Rattle.variable_node.specs.Parts.{lessFrom}
-use Rattle.reorder.proofs.LowLaws.{scaled-small}
+use Rattle.phi_order.proofs.OrderLaws.{scaled-small}
 use Rattle.variable_node.proofs.NodeLaws.{llrs-from, count-from}
 use Rattle.decoder.specs.Parts.{Kept, LayerGiven, KernelsGiven, CheckNodesWritten, FirstSymbols, OrderedGiven, lessAt, AreVariableNodes, clippedTo, VariableNodesWritten, OnePlace, PlaceDecoded, BlockVector, BlockGiven, vectorsFrom, blockAnswer, BlockDecoded, WorkDecoded}
 use Rattle.decoder.proofs.LayerLaws.{source-small}

@@ -53,7 +53,7 @@ pub(crate) fn check_nodes(
     while t < half {
         let theta = load_vector(frame, work, at + t);
         let phi = load_vector(frame, work, at + (half + t));
-        let x = reorder::scaled(&phi, coefs[start + t]);
+        let x = phi_order::scaled(&phi, coefs[start + t]);
         vector::store(&x, t, ordered);
         let r = check_node::check_node(&theta, &x);
         vector::store(&r, to + t, work);

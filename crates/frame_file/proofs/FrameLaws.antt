@@ -11,15 +11,15 @@ use borrow.Author.Tests.{le-ltb, lt-ltb, ne-eqb, eqb-false, not-false}
 use lib.Dec.{eqb, ltb, lit<}
 use lib.ListN.{length, take, drop, length-append, length-take, length-drop, drop-of-length-le}
 use lib.Seq.{take-all, take-at, drop-append-add, drop-drop}
-use Rattle.refusal.specs.Table.{Row, refusalOf, OneOf, NoneFits, Numbered}
+use Rattle.refusal.specs.Table.{Row, refusalOf, OneOf, NoneFits}
 use Rattle.refusal.specs.Tests.{outside, anyOutside, anyTo, unequal}
-use Rattle.refusal.proofs.Laws.{Finds, finds-refusal, taken-none, none-taken, first-refused, first-taken, when-taken, when-refused, refusal-has}
+use Rattle.refusal.proofs.Laws.{taken-none, none-taken, first-refused, first-taken, refusal-has}
 use Rattle.refusal.proofs.Within.{true-false, or-left, or-right, none-within, equal-false, unequal-true}
 use Rattle.refusal.proofs.AnyTo.{each-not, any-ext}
 use Rattle.vector.specs.Vector.{joined, vectorAt, AtMost, HasZero}
-use Rattle.vector.proofs.Laws.{length-tabulate, length-joined, joined-part}
+use Rattle.vector.proofs.Laws.{length-joined, joined-part}
 use Rattle.vector.proofs.SliceLaws.{vector-long}
-use Rattle.columns.specs.Reading.{spelled, part, numbers, isLine}
+use Rattle.columns.specs.Reading.{part, isLine}
 use Rattle.columns.proofs.LineLaws.{line-long}
 use Rattle.decoder_refusal.specs.Refusals.{noZero, llrsRow, zerosRow, penaltyTable}
 use Rattle.decoder_refusal.proofs.RefusalLaws.{some-zero}

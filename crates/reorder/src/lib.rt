@@ -1,8 +1,6 @@
-// Vectors of 64 penalties with their entries in another order, for the nodes of the decoder; and the bits of a penalty that count.
-mod gather;
+// Vectors of 64 penalties as the nodes of the decoder read them: the bits of a penalty that count, and neighbouring entries exchanged.
 mod penalties;
 mod swap;
 
-pub use gather::scaled;
 pub use penalties::low_bits;
 pub use swap::swapped;

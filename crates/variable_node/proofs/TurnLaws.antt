@@ -1,18 +1,16 @@
 -- The laws of a vector that is turned by a symbol: its entries i and i ⊕ u exchanged, by the three low bits of u within eight neighbours, and by the
 -- three high bits from eight to eight.
-use mathlib.Core.Path.{_≡_, refl, sym, ap, ap₂, _∙_, subst}
+use mathlib.Core.Path.{_≡_, refl, ap, ap₂, _∙_}
 use mathlib.Core.Bool.{Bool, _&&_}
 use mathlib.Core.List.{List}
-use Prim.Native.Nat.{ℕ, zero, suc, _+_, _-_, _*_, _/_, _%_, _≤_, _<_}
+use Prim.Native.Nat.{ℕ, zero, suc, _+_, _-_, _*_, _/_, _%_, _<_}
 use native.Mathlib.Omega.{arith}
 use lib.Dec.{T, ltb, eqb, ltb→lt, eqb→eq}
 use lib.ListN.{getD}
 use Rattle.gf64.specs.Field.{_⊕_}
-use Rattle.gf64.proofs.SumLaws.{sum-lt}
 use Rattle.gf64.proofs.Table.{and-left, and-right, all, all-at}
-use Rattle.reorder.specs.Parts.{Small}
 use Rattle.reorder.specs.Parts.{swapped}
-use Rattle.reorder.proofs.SwapLaws.{swapped-at, swapped-long}
+use Rattle.reorder.proofs.SwapLaws.{swapped-at}
 
 -- the low bits of a number, one by one
 abbrev bits : ℕ → ℕ

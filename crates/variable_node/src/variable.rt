@@ -6,7 +6,6 @@ ghost use mathlib.Core.Bool.{cond};
 ghost use Prim.Native.Nat.{_+_, _*_, _%_, _/_, _<_, _≤_, min};
 ghost use lib.Dec.{ltb};
 ghost use lib.ListN.{length, getD};
-ghost use Rattle.gf64.specs.Field.{_⊕_};
 ghost use Rattle.scms.specs.Nodes.{clipped, exceeding};
 ghost use Rattle.reorder.specs.Parts.{Small, swapped, Mapped};
 ghost use Rattle.variable_node.specs.Parts.{sumsFrom, IsVariableNode};

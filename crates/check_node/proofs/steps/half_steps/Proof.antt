@@ -1,12 +1,11 @@
 -- `half_steps` meets its contract: in each block of the half the values before i have taken their steps.
-use Prim.Native.Nat.{ℕ, _+_, _-_, _*_, _/_, _%_, _≤_, _<_}
+use Prim.Native.Nat.{ℕ, _+_, _-_, _≤_, _<_}
 use native.Mathlib.Omega.{arith}
 use borrow.Author.Needs.{needs}
-use mathlib.Core.Path.{_≡_, refl, sym, _∙_, subst}
 use lib.Bits.{bitXor, xor-lt}
 use lib.ListN.{getD}
 use Rattle.gf64.specs.Field.{_⊕_}
-use Rattle.check_node.specs.Steps.{Held, FourHeld, Raised, FourSmall, fourSteps, sourceOf, firstOf, stepsAt}
+use Rattle.check_node.specs.Steps.{Raised, FourSmall, firstOf, stepsAt}
 use Rattle.check_node.proofs.StepLaws.{LanesMapped, lanes-none, lanes-held, lanes-steps, lanes-all}
 use Rattle.check_node.proofs.steps.half_steps.Statement.{statement}
 use Rattle.check_node.proofs.steps.half_steps.Tie as tie

@@ -2,11 +2,11 @@
 use Prim.Native.Nat.{ℕ, _+_, _-_, _*_, _≤_, _<_}
 use native.Mathlib.Omega.{arith}
 use borrow.Author.Needs.{needs}
-use mathlib.Core.Path.{_≡_, refl, sym, ap, _∙_, subst}
+use mathlib.Core.Path.{_≡_, sym, ap, _∙_, subst}
 use mathlib.Core.List.{List}
 use lib.ListN.{length, getD}
 use Rattle.vector.proofs.Laws.{tabulate-ext}
-use Rattle.check_node.specs.Steps.{raised, lowered, leastSum, columnTo, penaltyBefore, AreCopies, Held}
+use Rattle.check_node.specs.Steps.{raised, lowered, leastSum, penaltyBefore, AreCopies, Held}
 use Rattle.check_node.proofs.LeastLaws.{raised-long, given, least-held, first-held, column-least, sums-are-node}
 use Rattle.check_node.proofs.steps.least_sums.Statement.{statement}
 use Rattle.check_node.proofs.steps.least_sums.Tie as tie

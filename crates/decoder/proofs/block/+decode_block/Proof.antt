@@ -1,6 +1,6 @@
 -- `decode_block` meets its contract: the halves are decoded one after the other, one layer less each, from the nodes of the kernels that join
 -- them (BlockLaws).
-use mathlib.Core.Path.{_≡_, refl, sym, _∙_}
+use mathlib.Core.Path.{_≡_, sym, _∙_}
 use Prim.Native.Nat.{ℕ, _+_, _-_, _*_, _/_, _≤_, _<_}
 use native.Mathlib.Omega.{arith}
 use borrow.Author.Needs.{needs}

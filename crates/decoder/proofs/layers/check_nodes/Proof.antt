@@ -1,7 +1,7 @@
 -- `check_nodes` meets its contract: the check nodes of the kernels before t are stored, and phi's vectors of these in the order of c.
 use mathlib.Core.Path.{_≡_, refl, ap, ap₂, _∙_}
-use mathlib.Core.List.{List, _++_}
-use Prim.Native.Nat.{ℕ, _+_, _-_, _<_}
+use mathlib.Core.List.{_++_}
+use Prim.Native.Nat.{ℕ, _+_, _-_}
 use native.Mathlib.Omega.{arith}
 use borrow.Author.Needs.{needs}
 use lib.ListN.{getD}
@@ -10,8 +10,7 @@ use Rattle.polar.proofs.Numbers.{getD-any}
 use Rattle.scms.specs.Nodes.{scaled}
 use Rattle.scms.proofs.NodeLaws.{check-long}
 use Rattle.check_node.specs.Parts.{checkFrom}
-use Rattle.reorder.proofs.LowLaws.{scaled-small}
-use Rattle.reorder.proofs.LowLaws.{ordered-low, low-ordered}
+use Rattle.phi_order.proofs.OrderLaws.{scaled-small, ordered-low, low-ordered}
 use Rattle.check_node.proofs.NodeLaws.{check-from}
 use Rattle.decoder.specs.Parts.{checkAt, orderedAt}
 use Rattle.decoder.proofs.LayerLaws.{StoredNodes, layer-none, layer-more, source-small, loaded-is, low-is, StoredFirst, first-none, first-more}

@@ -3,10 +3,8 @@ use Prim.Native.Nat.{ℕ, _+_, _-_, _*_, _/_, _%_, _≤_, _<_}
 use native.Mathlib.Omega.{arith}
 use borrow.Author.Needs.{needs}
 use mathlib.Core.Path.{_≡_, refl, ap, _∙_}
-use mathlib.Core.List.{List}
 use lib.Bits.{bitXor, xor-lt}
 use lib.ListN.{getD}
-use Rattle.vector.specs.Vector.{tabulate}
 use Rattle.vector.proofs.Laws.{tabulate-by}
 use Rattle.gf64.specs.Field.{_⊕_}
 use Rattle.scms.specs.Nodes.{sumAt}

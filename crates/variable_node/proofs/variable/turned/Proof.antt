@@ -4,10 +4,9 @@ use native.Mathlib.Omega.{arith}
 use borrow.Author.Needs.{needs}
 use mathlib.Core.Path.{_≡_, sym, ap, _∙_}
 use mathlib.Core.Logic.{⊎-elim}
-use lib.ListN.{length}
 use Rattle.gf64.specs.Field.{_⊕_}
 use Rattle.reorder.specs.Parts.{swapped}
-use Rattle.reorder.proofs.SwapLaws.{swapped-none, swapped-long, swapped-again}
+use Rattle.reorder.proofs.SwapLaws.{swapped-none, swapped-again}
 use Rattle.variable_node.proofs.TurnLaws.{low-bits, not-one}
 use Rattle.gf64.proofs.SumLaws.{zero-sum}
 use Rattle.variable_node.proofs.variable.turned.Statement.{statement}

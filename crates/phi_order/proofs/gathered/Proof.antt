@@ -5,9 +5,9 @@ use native.Mathlib.Omega.{arith}
 use borrow.Author.Needs.{needs}
 use lib.ListN.{getD}
 use Rattle.vector.proofs.Laws.{Filled, fill-none, fill-all}
 use Rattle.reorder.proofs.MapLaws.{fill-next}
-use Rattle.reorder.proofs.gather.gathered.Statement.{statement}
-use Rattle.reorder.proofs.gather.gathered.Tie as tie
+use Rattle.phi_order.proofs.gathered.Statement.{statement}
+use Rattle.phi_order.proofs.gathered.Tie as tie
 
 abbrev Inv-loop : tie.InvT-loop
 Inv-loop v products r₀ k₀ r k = Filled 64 (λ j. getD v (getD products j 0) 0 % 8192) r k × (k % 4 ≡ 0)

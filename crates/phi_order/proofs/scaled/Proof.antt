@@ -8,9 +8,9 @@ use Rattle.vector.proofs.Laws.{tabulate-ext}
 use Rattle.gf64.proofs.ProductLaws.{product-lt}
 use Rattle.multiples.proofs.MultipleLaws.{multiples-at}
 use Rattle.scms.specs.Nodes.{scaled}
 use Rattle.reorder.proofs.LowLaws.{low-at}
-use Rattle.reorder.proofs.gather.scaled.Statement.{statement}
-use Rattle.reorder.proofs.gather.scaled.Tie as tie
+use Rattle.phi_order.proofs.scaled.Statement.{statement}
+use Rattle.phi_order.proofs.scaled.Tie as tie
 
 multiples-requires : tie.Need-multiples-requires
 multiples-requires c κs = search needs
