@@ -15,7 +15,8 @@ fn turned(v: &[u16; 64], u: usize) -> [u16; 64]
     requires { ⌜ length (now v) ≡ 64 ⌝ }
     ensures { λ r. ⌜ r ≡ swapped (now (v .entry)) (u % 8) ⌝ }
 {
-    let by1 = if u % 2 == 1 { swapped(v, 1) } else { *v };
+    let by0 = *v;
+    let by1 = if u % 2 == 1 { swapped(&by0, 1) } else { by0 };
     let by2 = if u / 2 % 2 == 1 {
         swapped(&by1, 2)
     } else {

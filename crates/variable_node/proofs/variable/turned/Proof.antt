@@ -13,17 +13,17 @@ use Rattle.variable_node.proofs.variable.turned.Statement.{statement}
 use Rattle.variable_node.proofs.variable.turned.Tie as tie
 
 -- what a test leaves: the vector turned by the bits that were tested
-after1 : (c : tie.Joined1) → c .if1 .by1 ≡ swapped (c .before .args .v .now) (c .before .args .u % 2)
+after1 : (c : tie.Joined1) → c .if1 .by1 ≡ swapped (c .before .before .args .v .now) (c .before .before .args .u % 2)
 after1 c =
-    let a = c .before .args in
+    let a = c .before .before .args in
     ⊎-elim
-    (λ w. w .2 ∙ w .1 .ensures ∙ ap (swapped (a .v .now)) (sym (w .0 .taken)))
-    (λ w. w .2 ∙ swapped-none (a .v .now) (c .before .pre) ∙ ap (swapped (a .v .now)) (not-one (a .u % 2) (omega arith) (w .0 .left)))
+    (λ w. w .3 ∙ w .2 .ensures ∙ ap (swapped (a .v .now)) (sym (w .0 .taken)))
+    (λ w. w .1 ∙ swapped-none (a .v .now) (c .before .before .pre) ∙ ap (swapped (a .v .now)) (not-one (a .u % 2) (omega arith) (w .0 .left)))
     (c .if1 .came)
 
-after2 : (c : tie.Joined2) → c .if2 .by2 ≡ swapped (c .before .before .args .v .now) ((c .before .before .args .u / 2 % 2 * 2) ⊕ (c .before .before .args .u % 2))
+after2 : (c : tie.Joined2) → c .if2 .by2 ≡ swapped (c .before .before .before .args .v .now) ((c .before .before .before .args .u / 2 % 2 * 2) ⊕ (c .before .before .before .args .u % 2))
 after2 c =
-    let a = c .before .before .args in
+    let a = c .before .before .before .args in
     let first = after1 (c .before) in
     ⊎-elim
     (λ w. w .3 ∙ swapped-again (a .v .now) (a .u % 2) 2 (w .2 .ensures) first (omega arith) (ap (λ (b : ℕ). (b * 2) ⊕ (a .u % 2)) (sym (w .0 .taken))))
@@ -41,14 +41,14 @@ swapped-requires-3 c κs = search needs
 
 returns : tie.Need-returns
 returns c =
-    let a = c .before .before .before .before .before .args in
+    let a = c .before .before .before .before .before .before .args in
     let low = (a .u / 2 % 2 * 2) ⊕ (a .u % 2) in
     swapped-again (a .v .now) low 4 (c .swapped3 .ensures) (after2 (c .before .before .before)) (omega arith)
     (ap (λ (b : ℕ). (b * 4) ⊕ low) (sym (c .before .before .if3 .taken)) ∙ low-bits (a .u))
 
 returns-2 : tie.Need-returns-2
 returns-2 c =
-    let a = c .before .before .before .args in
+    let a = c .before .before .before .before .args in
     let low = (a .u / 2 % 2 * 2) ⊕ (a .u % 2) in
     after2 (c .before)
     ∙ ap (swapped (a .v .now)) (sym (zero-sum low) ∙ ap (λ (b : ℕ). (b * 4) ⊕ low) (not-one (a .u / 4 % 2) (omega arith) (c .if3 .left)) ∙ low-bits (a .u))
