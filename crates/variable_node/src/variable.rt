@@ -11,6 +11,7 @@ ghost use Rattle.reorder.specs.Parts.{Small, swapped, Mapped};
 ghost use Rattle.variable_node.specs.Parts.{sumsFrom, IsVariableNode};
 
 // A vector with its entries i and i + u mod 8 (the field's sum) exchanged: for each of u's three low bits that is set, neighbours at that distance.
+// Starting from a copy saves the compiler a move of the whole vector where the first of the bits is not set.
 fn turned(v: &[u16; 64], u: usize) -> [u16; 64]
     requires { ⌜ length (now v) ≡ 64 ⌝ }
     ensures { λ r. ⌜ r ≡ swapped (now (v .entry)) (u % 8) ⌝ }
