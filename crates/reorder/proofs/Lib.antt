@@ -1,3 +1,3 @@
 pub mod LowLaws
 pub mod SwapLaws
-pub mod MapLaws
+pub mod LoopLaws

@@ -5,7 +5,7 @@ use native.Mathlib.Omega.{arith}
 use borrow.Author.Needs.{needs}
 use lib.ListN.{getD}
 use Rattle.vector.proofs.Laws.{Filled, fill-none, fill-all}
-use Rattle.reorder.proofs.MapLaws.{fill-next}
+use Rattle.reorder.proofs.LoopLaws.{fill-next}
 use Rattle.phi_order.proofs.gathered.Statement.{statement}
 use Rattle.phi_order.proofs.gathered.Tie as tie
 

@@ -17,8 +17,7 @@ multiples-requires c κs = search needs
 
 gathered-requires : tie.Need-gathered-requires
 gathered-requires c κs =
-    let h = c .before .before .args .h in
-    λ k l. subst (λ (z : ℕ). z < 64) (sym (ap (λ (v : List ℕ). getD v k 0) (c .before .multiples .ensures) ∙ multiples-at h k l)) (product-lt _ _)
+    λ k l. subst (λ (z : ℕ). z < 64) (sym (ap (λ (v : List ℕ). getD v k 0) (c .before .multiples .ensures) ∙ multiples-at _ k l)) (product-lt _ _)
 
 returns : tie.Need-returns
 unfolding scaled

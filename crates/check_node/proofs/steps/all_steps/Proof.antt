@@ -5,7 +5,7 @@ use borrow.Author.Needs.{needs}
 use mathlib.Core.Path.{sym, subst}
 use Rattle.reorder.specs.Parts.{Mapped}
 use Rattle.check_node.specs.Steps.{Held, stepsAt}
-use Rattle.reorder.proofs.MapLaws.{map-none, map-join, map-all}
+use Rattle.reorder.proofs.LoopLaws.{map-none, map-join, map-all}
 use Rattle.check_node.proofs.steps.all_steps.Statement.{statement}
 use Rattle.check_node.proofs.steps.all_steps.Tie as tie
 

@@ -1,7 +1,9 @@
 -- `four_steps` meets its contract: what each step leaves may be given to the next.
-use Prim.Native.Nat.{_+_, _-_}
+use mathlib.Core.Path.{ap, _∙_}
+use Prim.Native.Nat.{ℕ, _+_}
+use native.Mathlib.Omega.{arith}
 use borrow.Author.Needs.{needs}
-use Rattle.check_node.specs.Steps.{fourSteps, Held}
+use Rattle.check_node.specs.Steps.{step, fourSteps, Held}
 use Rattle.check_node.proofs.StepLaws.{step-held}
 use Rattle.check_node.proofs.steps.four_steps.Statement.{statement}
 use Rattle.check_node.proofs.steps.four_steps.Tie as tie
@@ -32,16 +34,17 @@ step-requires-4 : tie.Need-step-requires-4
 step-requires-4 c κs =
     let a = c .before .before .before .args in
     let p = c .before .before .before .pre in
-    (step-held (c .before .step2 .result) (a .x1) (a .x2) (a .w2) (held1 (c .before)) (p .1 .small2) (p .4) (c .step3 .ensures), p .1 .small3, p .5 .most)
+    (step-held (c .before .step2 .result) (a .x1) (a .x2) (a .w2) (held1 (c .before)) (p .1 .small2) (p .4) (c .step3 .ensures), p .1 .small3, omega (arith, p .2 .most, p .3 .most, p .4 .most, p .5 .most))
 
 returns : tie.Need-returns
 unfolding fourSteps
 returns c =
+    let a = c .before .before .before .before .args in
     let e0 = c .before .before .before .step .ensures in
     let e1 = c .before .before .step2 .ensures in
     let e2 = c .before .step3 .ensures in
-    let e3 = c .step4 .ensures in
-    cc
+    c .step4 .ensures
+    ∙ ap (λ (h : ℕ). step h (a .x2) (a .x3) (a .w3)) (e2 ∙ ap (λ (h : ℕ). step h (a .x1) (a .x2) (a .w2)) (e1 ∙ ap (λ (h : ℕ). step h (a .x0) (a .x1) (a .w1)) e0))
 
 pub four-steps-spec : {M : Type 1} → statement M
 four-steps-spec =

@@ -7,7 +7,7 @@ use lib.ListN.{getD}
 use Rattle.vector.proofs.Laws.{tabulate-by}
 use Rattle.gf64.specs.Field.{_⊕_}
 use Rattle.reorder.specs.Parts.{Mapped, swapped}
-use Rattle.reorder.proofs.MapLaws.{map-none, map-join, map-all}
+use Rattle.reorder.proofs.LoopLaws.{map-none, map-join, map-all}
 use Rattle.reorder.proofs.swap.swapped.Statement.{statement}
 use Rattle.reorder.proofs.swap.swapped.Tie as tie
 

@@ -7,7 +7,7 @@ use lib.ListN.{getD}
 use Rattle.gf64.specs.Field.{_⊕_}
 use Rattle.gf64.proofs.SumLaws.{sum-lt}
 use Rattle.reorder.specs.Parts.{Mapped}
-use Rattle.reorder.proofs.MapLaws.{map-none, map-more, map-all}
+use Rattle.reorder.proofs.LoopLaws.{map-none, map-more, map-all}
 use Rattle.reorder.proofs.swap.swapped_block.Statement.{statement}
 use Rattle.reorder.proofs.swap.swapped_block.Tie as tie
 

@@ -5,7 +5,7 @@ use borrow.Author.Needs.{needs}
 use mathlib.Core.Path.{_≡_, ap}
 use lib.ListN.{getD}
 use Rattle.reorder.specs.Parts.{Mapped}
-use Rattle.reorder.proofs.MapLaws.{map-none, map-more, map-all}
+use Rattle.reorder.proofs.LoopLaws.{map-none, map-more, map-all}
 use Rattle.variable_node.proofs.variable.block_sums.Statement.{statement}
 use Rattle.variable_node.proofs.variable.block_sums.Tie as tie
 

@@ -10,7 +10,7 @@ use Rattle.gf64.specs.Field.{_⊕_}
 use Rattle.scms.specs.Nodes.{sumAt}
 use Rattle.variable_node.specs.Parts.{sumsFrom}
 use Rattle.reorder.specs.Parts.{Mapped}
-use Rattle.reorder.proofs.MapLaws.{map-none, map-ext, map-join, map-all}
+use Rattle.reorder.proofs.LoopLaws.{map-none, map-ext, map-join, map-all}
 use Rattle.reorder.proofs.SwapLaws.{swapped-small}
 use Rattle.variable_node.proofs.TurnLaws.{turned-at}
 use Rattle.variable_node.proofs.variable.sums.Statement.{statement}
@@ -46,7 +46,7 @@ block-sums-requires c κs =
     let a = entry head .args in
     let p = entry head .pre in
     let l = within (c .before) in (
-      swapped-small (a .theta .now) (a .u % 8) (omega arith) (head .before .turned .ensures) (p .1),
+      swapped-small (a .theta .now) _ (omega arith) (head .before .turned .ensures) (p .1),
       p .2,
       omega arith,
       head .loop .inv .0 .long,
