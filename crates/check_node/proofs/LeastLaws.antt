@@ -1,23 +1,24 @@
 -- From the steps of a check node to its entries.
-use mathlib.Core.Path.{_≡_, refl, sym, ap, _∙_}
+use mathlib.Core.Path.{_≡_, refl, sym, ap, ap₂, _∙_, subst}
 use mathlib.Core.Bool.{Bool, _&&_}
 use mathlib.Core.List.{List}
 use Prim.Native.Nat.{ℕ, zero, suc, _+_, _-_, _*_, _/_, _%_, _≤_, _<_}
 use native.Mathlib.Nat.{le-of-suc-le-suc}
 use native.Mathlib.Omega.{arith}
 use lib.Dec.{T, ltb, eqb, ltb→lt, eqb→eq}
-use lib.ListN.{length, getD}
+use lib.ListN.{getD}
 use Rattle.vector.specs.Vector.{tabulate, leastTo}
-use Rattle.vector.proofs.Laws.{length-tabulate, getD-tabulate, tabulate-ext, least-to-le, least-to-at}
+use Rattle.vector.proofs.Laws.{tabulate-ext, least-to-le, least-to-at}
 use Rattle.gf64.specs.Field.{_⊕_}
 use Rattle.gf64.proofs.SumLaws.{sum-lt, sum-zero}
 use Rattle.gf64.proofs.Table.{and-left, and-right, all, all-at}
 use Rattle.scms.specs.Nodes.{sumAt}
 use Rattle.reorder.specs.Parts.{Small}
 use Rattle.check_node.specs.Parts.{checkFrom}
-use Rattle.check_node.specs.Steps.{byColumns, raised, sourceOf, firstOf, fourSteps, stepsAt, penaltyBefore, columnTo, leastSum, Held, AreCopies, StepsGiven}
+use Rattle.check_node.specs.Steps.{byColumns, sourceOf, firstOf, step, fourSteps, stepsAt, columnTo, differences, leastSum, AreCopies}
 use Rattle.check_node.proofs.CopyLaws.{copies-at}
-use Rattle.check_node.proofs.StepLaws.{step-held, step-least}
+use Rattle.check_node.proofs.DifferenceLaws.{columns-lt, columns-twice, difference-at}
+use Rattle.check_node.proofs.StepLaws.{step-least}
 
 -- where the copies are read for value b at step 4 q + j
 abbrev source : (q j b : ℕ) → ℕ
@@ -58,50 +59,18 @@ source-at q j b hq hj hb =
       entry = eqb→eq _ _ (and-right first second t);
     }
 
--- a vector that was raised has 64 entries
-pub raised-long : (v : List ℕ) → length (raised v) ≡ 64
-unfolding raised
-raised-long v = length-tabulate 64 (λ k. getD v k 0 + 8191)
-
--- an entry of it
-raised-at : (v : List ℕ) (i : ℕ) → i < 64 → getD (raised v) i 0 ≡ getD v i 0 + 8191
-unfolding raised
-raised-at v i l = getD-tabulate 0 64 (λ k. getD v k 0 + 8191) i l
-
--- an entry of its copies
-copied-at : {w : List ℕ} (theta : List ℕ) → AreCopies 8 (raised theta) w → (n : ℕ) → n < 512 → getD w n 0 ≡ getD theta ((n % 64) ⊕ (n / 64)) 0 + 8191
-copied-at theta h n l =
-    copies-at h n l ∙ raised-at theta ((n % 64) ⊕ (n / 64)) (sum-lt (n % 64) (n / 64) (omega arith) (omega arith))
-
--- steps are given raised copies of a vector of penalties
-pub given : {x w : List ℕ} (theta : List ℕ) → AreCopies 8 (raised theta) w → Small theta → Small x → StepsGiven w x
-given {x} {w} theta h st sx = record {
-  long = h .long;
-  raised = λ n s.
-      let e = copied-at theta h n s in
-      let m = st .most ((n % 64) ⊕ (n / 64)) (sum-lt (n % 64) (n / 64) (omega arith) (omega arith)) in
-      record { least = omega arith; most = omega arith };
-  small = λ p s. sx .most p s;
-}
-
--- what steps leave, plus the last penalty, is within the same bounds
-pub steps-held : {x w : List ℕ} (q y b held : ℕ) → StepsGiven w x → q < 16 → b < 64 → Held (held + y) → Held (stepsAt w x q y b held + getD x (firstOf q + 24) 0)
-unfolding stepsAt fourSteps
-steps-held {x} {w} q y b held g lq lb h =
-    let r : (j : ℕ) → j < 4 → _ = λ j l. g .raised (source q j b) (source-at q j b lq l lb .within) in
-    let s0 = step-held held y _ _ h (g .small (firstOf q) (omega arith)) (r 0 (omega arith)) refl in
-    let s1 = step-held _ _ _ _ s0 (g .small (firstOf q + 8) (omega arith)) (r 1 (omega arith)) refl in
-    let s2 = step-held _ _ _ _ s1 (g .small (firstOf q + 16) (omega arith)) (r 2 (omega arith)) refl in
-    step-held _ _ _ _ s2 (g .small (firstOf q + 24) (omega arith)) (r 3 (omega arith)) refl
-
 -- a least sum is at most 16,382
-pub least-held : (theta x : List ℕ) (b p : ℕ) → Small theta → Small x → b < 64 → Held (leastSum theta x b p + 8191)
+least-most : (theta x : List ℕ) (b p : ℕ) → Small theta → Small x → b < 64 → leastSum theta x b p ≤ 16382
 unfolding byColumns
-least-held theta x b p st sx l =
+least-most theta x b p st sx l =
     let m = least-to-le p (λ k. sumAt theta x b (byColumns k)) 0 (omega arith) in
     let t = st .most (b ⊕ byColumns 0) (sum-lt b 0 l (omega arith)) in
     let s = sx .most 0 (omega arith) in
-    record { least = omega arith; most = omega arith }
+    omega arith
+
+-- what is held for value b after k steps: the least sum so far less the penalty of the last step, in 16 bits; before the first step, as after it
+pub record Holds (theta x : List ℕ) (b k held : ℕ) : Type 0 where
+  pub least : (held + getD x (byColumns (k - 1)) 0) % 65536 ≡ leastSum theta x b (k - 1)
 
 -- the value of a step, from that of the first of its four
 value-of : (q j : ℕ) → j < 4 → byColumns (4 * q + j) ≡ firstOf q + 8 * j
@@ -110,63 +79,59 @@ value-of q j l =
     let d : (4 * q + j) / 8 ≡ q / 2 = omega arith in
     omega arith
 
-module _ {x w : List ℕ} (theta : List ℕ) (b : ℕ) (h : AreCopies 8 (raised theta) w) (sx : Small x) (lb : b < 64) where
-  module _ (q : ℕ) (lq : q < 16) where
-    -- what value b is compared with at step 4 q + j
-    compared : (j n : ℕ) → j < 4 → n ≡ 4 * q + j → getD w (source q j b) 0 ≡ getD theta (b ⊕ byColumns n) 0 + 8191
-    compared j n l e =
-        let s = source-at q j b lq l lb in
-        copied-at theta h (source q j b) (s .within) ∙ ap (λ (k : ℕ). getD theta k 0 + 8191) (s .entry) ∙ ap (λ (k : ℕ). getD theta (b ⊕ byColumns k) 0 + 8191) (sym e)
+-- the same number of steps
+pub at-step : {theta x : List ℕ} {b k n held : ℕ} → k ≡ n → Holds theta x b k held → Holds theta x b n held
+at-step {theta} {x} {b} {k} {n} {held} e = subst (λ (m : ℕ). Holds theta x b m held) e
 
-    -- the sum at that step, with its penalty
-    summed : (j n k : ℕ) → j < 4 → n ≡ 4 * q + j → k ≡ firstOf q + 8 * j → sumAt theta x b (byColumns n) ≡ getD theta (b ⊕ byColumns n) 0 + getD x k 0
-    summed j n k l e f = ap (λ (z : ℕ). getD theta (b ⊕ byColumns n) 0 + getD x z 0) (ap byColumns e ∙ value-of q j l ∙ sym f)
+module _ {x w d : List ℕ} (theta : List ℕ) (b : ℕ) (h : AreCopies 8 theta w) (e : d ≡ differences x) (st : Small theta) (sx : Small x) (lb : b < 64) where
+  -- one step more: i is the step's value, v what it is compared with
+  step-holds : (k i v held : ℕ) → k < 64 → i ≡ byColumns k → v ≡ getD theta (b ⊕ byColumns k) 0 → Holds theta x b k held → Holds theta x b (k + 1) (step held (getD d i 0) v)
+  step-holds k i v held l n f a =
+      let c = byColumns k in
+      let lc = columns-lt k l in
+      let t = ap₂ (λ (xs : List ℕ) (j : ℕ). getD xs j 0) e n in
+      let same : k + 1 - 1 ≡ k = omega arith in
+      let z : v ≤ 8191 = (let m = st .most (b ⊕ c) (sum-lt b c lb lc) in omega arith) in
+      let made = step-least held (getD x (byColumns (k - 1)) 0) (getD d i 0) (getD x c 0) v k (λ j. sumAt theta x b (byColumns j)) (a .least)
+      (ap (λ (m : ℕ). (m + getD x c 0) % 65536) t ∙ difference-at x sx k l) (least-most theta x b (k - 1) st sx lb) (sx .most c lc) z (ap (λ (m : ℕ). m + getD x c 0) (sym f)) in
+      record { least = ap (λ (m : ℕ). (step held (getD d i 0) v + getD x (byColumns m) 0) % 65536) same ∙ made ∙ ap (leastSum theta x b) (sym same) }
 
-    -- four steps: what is held, plus the last penalty, is the least sum so far, plus 8,191
-    four-least : (y held : ℕ) → held + y ≡ leastSum theta x b (4 * q - 1) + 8191
-        → stepsAt w x q y b held + getD x (firstOf q + 24) 0 ≡ leastSum theta x b (4 * q + 3) + 8191
-    unfolding stepsAt fourSteps
-    four-least y held e =
-        let g : ℕ → ℕ = λ k. sumAt theta x b (byColumns k) in
-        let back : (n m : ℕ) → n ≡ m → leastTo n g + 8191 ≡ leastTo m g + 8191 = λ n m s. ap (λ (k : ℕ). leastTo k g + 8191) s in
-        let s0 = step-least held y _ _ _ (4 * q) g e (compared 0 (4 * q) (omega arith) (omega arith)) (summed 0 (4 * q) (firstOf q) (omega arith) (omega arith) (omega arith)) (sx .most (firstOf q) (omega arith)) in
-        let s1 = step-least _ _ _ _ _ (4 * q + 1) g (s0 ∙ back (4 * q) (4 * q + 1 - 1) (omega arith)) (compared 1 (4 * q + 1) (omega arith) refl) (summed 1 (4 * q + 1) (firstOf q + 8) (omega arith) refl (omega arith)) (sx .most (firstOf q + 8) (omega arith)) in
-        let s2 = step-least _ _ _ _ _ (4 * q + 2) g (s1 ∙ back (4 * q + 1) (4 * q + 2 - 1) (omega arith)) (compared 2 (4 * q + 2) (omega arith) refl) (summed 2 (4 * q + 2) (firstOf q + 16) (omega arith) refl (omega arith)) (sx .most (firstOf q + 16) (omega arith)) in
-        step-least _ _ _ _ _ (4 * q + 3) g (s2 ∙ back (4 * q + 2) (4 * q + 3 - 1) (omega arith)) (compared 3 (4 * q + 3) (omega arith) refl) (summed 3 (4 * q + 3) (firstOf q + 24) (omega arith) refl (omega arith)) (sx .most (firstOf q + 24) (omega arith))
+  -- what value b is compared with at step 4 q + j
+  compared : (q j : ℕ) → q < 16 → j < 4 → getD w (source q j b) 0 ≡ getD theta (b ⊕ byColumns (4 * q + j)) 0
+  compared q j lq l =
+      let s = source-at q j b lq l lb in
+      copies-at h (source q j b) (s .within) ∙ ap (λ (k : ℕ). getD theta k 0) (s .entry)
+
+  -- four steps more
+  four-hold : (q held : ℕ) → q < 16 → Holds theta x b (4 * q) held → Holds theta x b (4 * q + 4) (stepsAt w d q b held)
+  unfolding stepsAt fourSteps
+  four-hold q held l a0 =
+      let value : (j i : ℕ) → j < 4 → i ≡ firstOf q + 8 * j → i ≡ byColumns (4 * q + j) = λ j i m n. n ∙ sym (value-of q j m) in
+      let a1 = step-holds (4 * q + 0) (firstOf q) _ held (omega arith) (value 0 _ (omega arith) (omega arith)) (compared q 0 l (omega arith)) (at-step (omega arith) a0) in
+      let a2 = step-holds (4 * q + 1) (firstOf q + 8) _ _ (omega arith) (value 1 _ (omega arith) refl) (compared q 1 l (omega arith)) (at-step (omega arith) a1) in
+      let a3 = step-holds (4 * q + 2) (firstOf q + 16) _ _ (omega arith) (value 2 _ (omega arith) refl) (compared q 2 l (omega arith)) (at-step (omega arith) a2) in
+      at-step (omega arith) (step-holds (4 * q + 3) (firstOf q + 24) _ _ (omega arith) (value 3 _ (omega arith) refl) (compared q 3 l (omega arith)) (at-step (omega arith) a3))
 
   -- the steps of a column, the first 4 j of them
-  pub column-least : (column y held : ℕ) → column < 8 → held + y ≡ leastSum theta x b (8 * column - 1) + 8191
-      → (j : ℕ) → j ≤ 2 → columnTo w x column y j b held + penaltyBefore x column y j ≡ leastSum theta x b (8 * column + 4 * j - 1) + 8191
-  unfolding columnTo penaltyBefore
-  column-least column y held l e zero m =
-      let z : 8 * column - 1 ≡ 8 * column + 4 * 0 - 1 = omega arith in
-      e ∙ ap (λ (k : ℕ). leastSum theta x b k + 8191) z
-  column-least column y held l e (suc j) m =
-      let k : firstOf (2 * column + j) + 24 ≡ 32 * j + column + 24 = omega arith in
-      let z : 8 * column + 4 * j - 1 ≡ 4 * (2 * column + j) - 1 = omega arith in
-      let t : 4 * (2 * column + j) + 3 ≡ 8 * column + 4 * suc j - 1 = omega arith in
-      let before = column-least column y held l e j (omega arith) ∙ ap (λ (n : ℕ). leastSum theta x b n + 8191) z in
-      let made = four-least (2 * column + j) (omega arith) (penaltyBefore x column y j) (columnTo w x column y j b held) before in
-      ap (λ (n : ℕ). stepsAt w x (2 * column + j) (penaltyBefore x column y j) b (columnTo w x column y j b held) + getD x n 0) (sym k) ∙ made
-      ∙ ap (λ (n : ℕ). leastSum theta x b n + 8191) t
+  pub column-holds : (column held : ℕ) → column < 8 → Holds theta x b (8 * column) held → (j : ℕ) → j ≤ 2 → Holds theta x b (8 * column + 4 * j) (columnTo w d column j b held)
+  unfolding columnTo
+  column-holds column held l a zero m = at-step (omega arith) a
+  column-holds column held l a (suc j) m =
+      at-step (omega arith) (four-hold (2 * column + j) (columnTo w d column j b held) (omega arith) (at-step (omega arith) (column-holds column held l a j (omega arith))))
 
--- what is held before the first step: the vector itself, raised
-pub first-held : (theta x : List ℕ) (b : ℕ) → b < 64 → getD (raised theta) b 0 + getD x 0 0 ≡ leastSum theta x b 0 + 8191
+-- before the first step
+pub none-hold : (theta x : List ℕ) (b : ℕ) → Small theta → Small x → b < 64 → Holds theta x b 0 (getD theta b 0)
 unfolding byColumns leastTo
-first-held theta x b l =
-    let e = raised-at theta b l in
+none-hold theta x b st sx l =
     let s = ap (λ (k : ℕ). getD theta k 0) (sum-zero b) in
-    omega arith
+    let t = st .most b l in
+    let u = sx .most 0 (omega arith) in
+    record { least = omega arith }
 
--- the value of a step is a symbol
-columns-lt : (k : ℕ) → k < 64 → byColumns k < 64
+-- after the last step what is held, plus the last penalty, is the least sum
+pub all-hold : {theta x : List ℕ} {b k held : ℕ} → Holds theta x b k held → k ≡ 64 → (held + getD x 63 0) % 65536 ≡ leastSum theta x b 63
 unfolding byColumns
-columns-lt k h = omega arith
-
--- the order by columns undoes itself
-columns-twice : (k : ℕ) → k < 64 → byColumns (byColumns k) ≡ k
-unfolding byColumns
-columns-twice k h = omega arith
+all-hold {theta} {x} {b} {k} {held} h e = at-step e h .least
 
 -- the least is the same in the order of columns
 turned : (f : ℕ → ℕ) → leastTo 63 (λ k. f (byColumns k)) ≡ leastTo 63 f

@@ -1,5 +1,5 @@
 pub mod NodeLaws
 pub mod CopyLaws
+pub mod DifferenceLaws
 pub mod StepLaws
-pub mod SignedLaws
 pub mod LeastLaws

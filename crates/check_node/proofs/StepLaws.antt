@@ -1,50 +1,84 @@
 -- The laws of a check node's steps.
-use mathlib.Core.Path.{_≡_, refl, sym, ap, _∙_, subst}
+use mathlib.Core.Path.{_≡_, refl, sym, ap, ap₂, _∙_, subst}
+use mathlib.Core.Bool.{Bool, true, false, cond}
 use mathlib.Core.List.{List}
 use Prim.Native.Nat.{ℕ, zero, suc, _+_, _-_, _*_, _/_, _%_, _≤_, _<_, min}
-use native.Mathlib.Nat.{min-eq-left, min-eq-right}
+use native.Mathlib.Nat.{min-eq-left, min-eq-right, le-refl}
 use native.Mathlib.Decide.{decLt}
 use native.Mathlib.Omega.{arith}
+use borrow.Author.Tests.{ltb-true, ltb-false}
+use lib.Dec.{ltb}
 use lib.ListN.{length, getD, set, length-set}
 use lib.Seq.{getD-set-same, getD-set-other}
 use Rattle.vector.specs.Vector.{leastTo}
 use Rattle.gf64.specs.Field.{_⊕_}
 use Rattle.reorder.specs.Parts.{Mapped}
-use Rattle.check_node.specs.Steps.{step, fourSteps, sourceOf, firstOf, stepsAt, Held, FourHeld, Raised}
+use Rattle.check_node.specs.Steps.{signedRank, step, fourSteps, sourceOf, firstOf, stepsAt}
 
--- the smaller of two numbers, by cases
-pub min-cases : (a b : ℕ) → Dec (a < b) → (P : ℕ → Type 0) → (a ≤ b → P a) → (b ≤ a → P b) → P (min a b)
-min-cases a b (yes l) P f g = subst P (sym (min-eq-left (omega arith))) (f (omega arith))
-min-cases a b (no l) P f g = subst P (sym (min-eq-right (omega arith))) (g (omega arith))
+-- a choice by a test, in its two cases
+by-test : (t : Bool) (a b : ℕ) (P : ℕ → Type 0) → (t ≡ true → P a) → (t ≡ false → P b) → P (cond t a b)
+by-test true a b P f g = f refl
+by-test false a b P f g = g refl
 
--- what a step leaves, plus the penalty that it went to, is within the same bounds
-step-within : (held y x w : ℕ) → Held (held + y) → x ≤ 8191 → Raised w → Held (step held y x w + x)
-step-within held y x w h l r =
-    let low = h .least in
-    let high = h .most in
-    let wl = r .least in
-    let wh = r .most in
-    min-cases (held + y - x) w (decLt (held + y - x) w) (λ m. Held (m + x))
-    (λ s. record { least = omega arith; most = omega arith })
-    (λ s. record { least = omega arith; most = omega arith })
+-- a step, from its test: m is what is held, plus d, and a and b are where m and w stand among signed numbers
+pub step-is : (held d w m a b r : ℕ) → m ≡ (held + d) % 65536 → a ≡ signedRank m → b ≡ signedRank w → (a < b → r ≡ m) → (b ≤ a → r ≡ w) → r ≡ step held d w
+unfolding step
+step-is held d w m a b r e ea eb f g =
+    by-test (ltb a b) m w (λ z. r ≡ z) (λ t. f (ltb-true a b t)) (λ t. g (ltb-false a b t))
+    ∙ ap₂ (λ (y z : ℕ). cond (ltb y z) m w) ea eb
+    ∙ ap (λ (z : ℕ). cond (ltb (signedRank z) (signedRank w)) z w) e
 
--- the same of a number that is what a step leaves
-pub step-held : {r : ℕ} (held y x w : ℕ) → Held (held + y) → x ≤ 8191 → Raised w → r ≡ step held y x w → Held (r + x)
-step-held held y x w h l z e = subst (λ (m : ℕ). Held (m + x)) (sym e) (step-within held y x w h l z)
+-- a number of 16 bits
+mod-lt : (n : ℕ) → n % 65536 < 65536
+mod-lt n = omega arith
 
--- and it is the least sum so far, one sum more, plus 8,191
-pub step-least : (held y x w t n : ℕ) (g : ℕ → ℕ) → held + y ≡ leastTo (n - 1) g + 8191 → w ≡ t + 8191 → g n ≡ t + x → x ≤ 8191
-    → step held y x w + x ≡ leastTo n g + 8191
+-- what is held moves with the penalty: m is what is held, plus d
+moved-is : (held y d x m : ℕ) → m ≡ (held + d) % 65536 → (d + x) % 65536 ≡ y → (m + x) % 65536 ≡ (held + y) % 65536
+moved-is held y d x m e f = omega arith
+
+-- where it stands among signed numbers: as the sum less x
+rank-is : (m x sum : ℕ) → m < 65536 → (m + x) % 65536 ≡ sum → sum ≤ 16382 → x ≤ 8191 → signedRank m + x ≡ sum + 32768
+rank-is m x sum l e ls lx = omega arith
+
+-- so two of them are compared as the sums are
+below : (m w x sum : ℕ) → signedRank m + x ≡ sum + 32768 → w ≤ 8191 → signedRank m < signedRank w → sum ≤ w + x
+below m w x sum e l t = let other : signedRank w ≡ w + 32768 = omega arith in omega arith
+
+not-below : (m w x sum : ℕ) → signedRank m + x ≡ sum + 32768 → w ≤ 8191 → signedRank w ≤ signedRank m → w + x ≤ sum
+not-below m w x sum e l t = let other : signedRank w ≡ w + 32768 = omega arith in omega arith
+
+-- two penalties' sum does not wrap around
+no-wrap : (w x : ℕ) → w ≤ 8191 → x ≤ 8191 → (w + x) % 65536 ≡ w + x
+no-wrap w x l m = omega arith
+
+-- one step: what is held, plus the penalty, is the smaller of the sum before and the sum at this value. Before, the penalty was y; d is the difference
+step-min : (held y d x w sum : ℕ) → (held + y) % 65536 ≡ sum → (d + x) % 65536 ≡ y → sum ≤ 16382 → x ≤ 8191 → w ≤ 8191 → (step held d w + x) % 65536 ≡ min sum (w + x)
+unfolding step
+step-min held y d x w sum e f ls lx lw =
+    by-test (ltb (signedRank m) (signedRank w)) m w (λ z. (z + x) % 65536 ≡ min sum (w + x))
+    (λ t. moved ∙ sym (min-eq-left (below m w x sum rank lw (ltb-true (signedRank m) (signedRank w) t))))
+    (λ t. no-wrap w x lw lx ∙ sym (min-eq-right (not-below m w x sum rank lw (ltb-false (signedRank m) (signedRank w) t))))
+  where
+    m : ℕ
+    m = (held + d) % 65536
+
+    moved : (m + x) % 65536 ≡ sum
+    moved = moved-is held y d x m refl f ∙ e
+
+    rank : signedRank m + x ≡ sum + 32768
+    rank = rank-is m x sum (mod-lt (held + d)) moved ls lx
+
+-- the least sum so far, one sum more
+least-more : (n : ℕ) (g : ℕ → ℕ) → min (leastTo (n - 1) g) (g n) ≡ leastTo n g
 unfolding leastTo
-step-least held y x w t zero g e f k l =
-    let a : held + y ≡ g 0 + 8191 = e in
-    min-cases (held + y - x) w (decLt (held + y - x) w) (λ m. m + x ≡ g 0 + 8191) (λ s. omega arith) (λ s. omega arith)
-step-least held y x w t (suc n) g e f k l =
-    let same : suc n - 1 ≡ n = omega arith in
-    let a : held + y ≡ leastTo n g + 8191 = e ∙ ap (λ (z : ℕ). leastTo z g + 8191) same in
-    min-cases (leastTo n g) (g (suc n)) (decLt (leastTo n g) (g (suc n))) (λ z. step held y x w + x ≡ z + 8191)
-    (λ u. min-cases (held + y - x) w (decLt (held + y - x) w) (λ m. m + x ≡ leastTo n g + 8191) (λ s. omega arith) (λ s. omega arith))
-    (λ u. min-cases (held + y - x) w (decLt (held + y - x) w) (λ m. m + x ≡ g (suc n) + 8191) (λ s. omega arith) (λ s. omega arith))
+least-more zero g = min-eq-left (le-refl (g 0))
+least-more (suc n) g = let same : suc n - 1 ≡ n = omega arith in ap (λ (z : ℕ). min (leastTo z g) (g (suc n))) same
+
+-- so the steps hold the least sum so far, less the penalty
+pub step-least : (held y d x w n : ℕ) (g : ℕ → ℕ) → (held + y) % 65536 ≡ leastTo (n - 1) g → (d + x) % 65536 ≡ y → leastTo (n - 1) g ≤ 16382 → x ≤ 8191 → w ≤ 8191
+    → g n ≡ w + x → (step held d w + x) % 65536 ≡ leastTo n g
+step-least held y d x w n g e f ls lx lw k =
+    step-min held y d x w (leastTo (n - 1) g) e f ls lx lw ∙ ap (min (leastTo (n - 1) g)) (sym k) ∙ least-more n g
 
 -- where the copies are read for block m of a half, at step 4 q + j: k is m ⊕ j
 pub source-is : (q half m j k : ℕ) → m < 4 → k ≡ m ⊕ j → 32 * (q ⊕ half) + 8 * k ≡ sourceOf q j (4 * half + m)
@@ -55,14 +89,14 @@ source-is q half m j k l e =
     cc
 
 -- steps 4 q to 4 q + 3 for value b, the one at i of a block, from where the copies are read
-pub steps-are : (copies x : List ℕ) (q y block i b f0 f1 f2 f3 held before : ℕ) → i < 8 → b ≡ 8 * block + i
+pub steps-are : (copies d : List ℕ) (q block i b f0 f1 f2 f3 held before : ℕ) → i < 8 → b ≡ 8 * block + i
     → f0 ≡ sourceOf q 0 block → f1 ≡ sourceOf q 1 block → f2 ≡ sourceOf q 2 block → f3 ≡ sourceOf q 3 block → held ≡ before
-    → fourSteps y (getD x (firstOf q) 0) (getD x (firstOf q + 8) 0) (getD x (firstOf q + 16) 0) (getD x (firstOf q + 24) 0) (getD copies (f0 + i) 0) (getD copies (f1 + i) 0) (getD copies (f2 + i) 0) (getD copies (f3 + i) 0) held
-    ≡ stepsAt copies x q y b before
+    → fourSteps (getD d (firstOf q) 0) (getD d (firstOf q + 8) 0) (getD d (firstOf q + 16) 0) (getD d (firstOf q + 24) 0) (getD copies (f0 + i) 0) (getD copies (f1 + i) 0) (getD copies (f2 + i) 0) (getD copies (f3 + i) 0) held
+    ≡ stepsAt copies d q b before
 unfolding stepsAt
-steps-are copies x q y block i b f0 f1 f2 f3 held before l n e0 e1 e2 e3 e =
-    let d : block ≡ b / 8 = omega arith in
-    let m : i ≡ b % 8 = omega arith in
+steps-are copies d q block i b f0 f1 f2 f3 held before l n e0 e1 e2 e3 e =
+    let m : block ≡ b / 8 = omega arith in
+    let k : i ≡ b % 8 = omega arith in
     cc
 
 -- a loop that maps the 32 entries of one half, one of each block of eight in a turn: those before n in their block are mapped, all others are as they were
@@ -161,33 +195,24 @@ module _ {f : ℕ → ℕ → ℕ} {half n : ℕ} {before after : List ℕ} (h :
       go b p q (no t) = block b p (omega arith) (decLt (b / 8 % 4) 1) (decLt (b / 8 % 4) 2) (decLt (b / 8 % 4) 3)
 
 -- a turn of the loop that takes the steps of one half: four values, the one at i of each block
-module _ {before after : List ℕ} {half i : ℕ} (copies x : List ℕ) (q y : ℕ) (h : LanesMapped (stepsAt copies x q y) half i before after) (lh : half < 2) (li : i < 8) where
-  -- what is held for each of them is what it was
-  pub lanes-held : ((b : ℕ) → b < 64 → 32 * half ≤ b → Held (getD before b 0 + y))
-      → FourHeld (getD after (32 * half + i) 0) (getD after (32 * half + 8 + i) 0) (getD after (32 * half + 16 + i) 0) (getD after (32 * half + 24 + i) 0) y
-  lanes-held g =
-      record { first = go _ (omega arith) (omega arith) (omega arith); second = go _ (omega arith) (omega arith) (omega arith); third = go _ (omega arith) (omega arith) (omega arith); fourth = go _ (omega arith) (omega arith) (omega arith) }
-    where
-      go : (b : ℕ) → b / 32 ≡ half → b % 8 ≡ i → b < 64 → Held (getD after b 0 + y)
-      go b p s l = subst (λ (k : ℕ). Held (k + y)) (sym (h .rest b p (omega arith))) (g b l (omega arith))
-
+module _ {before after : List ℕ} {half i : ℕ} (copies d : List ℕ) (q : ℕ) (h : LanesMapped (stepsAt copies d q) half i before after) (lh : half < 2) (li : i < 8) where
   -- the steps of the one in block m, from where the copies are read for it
   block-steps : (m b f0 f1 f2 f3 : ℕ) → m < 4 → b ≡ 32 * half + 8 * m + i
       → f0 ≡ 32 * (q ⊕ half) + 8 * (m ⊕ 0) → f1 ≡ 32 * (q ⊕ half) + 8 * (m ⊕ 1) → f2 ≡ 32 * (q ⊕ half) + 8 * (m ⊕ 2) → f3 ≡ 32 * (q ⊕ half) + 8 * (m ⊕ 3)
-      → fourSteps y (getD x (firstOf q) 0) (getD x (firstOf q + 8) 0) (getD x (firstOf q + 16) 0) (getD x (firstOf q + 24) 0) (getD copies (f0 + i) 0) (getD copies (f1 + i) 0) (getD copies (f2 + i) 0) (getD copies (f3 + i) 0) (getD after b 0)
-      ≡ stepsAt copies x q y b (getD before b 0)
+      → fourSteps (getD d (firstOf q) 0) (getD d (firstOf q + 8) 0) (getD d (firstOf q + 16) 0) (getD d (firstOf q + 24) 0) (getD copies (f0 + i) 0) (getD copies (f1 + i) 0) (getD copies (f2 + i) 0) (getD copies (f3 + i) 0) (getD after b 0)
+      ≡ stepsAt copies d q b (getD before b 0)
   block-steps m b f0 f1 f2 f3 l e e0 e1 e2 e3 =
       let s : (j : ℕ) → 32 * (q ⊕ half) + 8 * (m ⊕ j) ≡ sourceOf q j (4 * half + m) = λ j. source-is q half m j (m ⊕ j) l refl in
-      steps-are copies x q y (4 * half + m) i b f0 f1 f2 f3 _ _ li (omega arith) (e0 ∙ s 0) (e1 ∙ s 1) (e2 ∙ s 2) (e3 ∙ s 3) (h .rest b (omega arith) (omega arith))
+      steps-are copies d q (4 * half + m) i b f0 f1 f2 f3 _ _ li (omega arith) (e0 ∙ s 0) (e1 ∙ s 1) (e2 ∙ s 2) (e3 ∙ s 3) (h .rest b (omega arith) (omega arith))
 
   -- one value more of each block
-  pub lanes-steps : (v0 v1 v2 v3 : ℕ) → (let from = 32 * (q ⊕ half) in let x0 = getD x (firstOf q) 0 in let x1 = getD x (firstOf q + 8) 0 in let x2 = getD x (firstOf q + 16) 0 in let x3 = getD x (firstOf q + 24) 0 in
+  pub lanes-steps : (v0 v1 v2 v3 : ℕ) → (let from = 32 * (q ⊕ half) in let d0 = getD d (firstOf q) 0 in let d1 = getD d (firstOf q + 8) 0 in let d2 = getD d (firstOf q + 16) 0 in let d3 = getD d (firstOf q + 24) 0 in
       let w0 = getD copies (from + i) 0 in let w1 = getD copies (from + 8 + i) 0 in let w2 = getD copies (from + 16 + i) 0 in let w3 = getD copies (from + 24 + i) 0 in
-      v0 ≡ fourSteps y x0 x1 x2 x3 w0 w1 w2 w3 (getD after (32 * half + i) 0)
-      → v1 ≡ fourSteps y x0 x1 x2 x3 w1 w0 w3 w2 (getD after (32 * half + 8 + i) 0)
-      → v2 ≡ fourSteps y x0 x1 x2 x3 w2 w3 w0 w1 (getD after (32 * half + 16 + i) 0)
-      → v3 ≡ fourSteps y x0 x1 x2 x3 w3 w2 w1 w0 (getD after (32 * half + 24 + i) 0)
-      → LanesMapped (stepsAt copies x q y) half (i + 1) before (set (set (set (set after (32 * half + i) v0) (32 * half + 8 + i) v1) (32 * half + 16 + i) v2) (32 * half + 24 + i) v3))
+      v0 ≡ fourSteps d0 d1 d2 d3 w0 w1 w2 w3 (getD after (32 * half + i) 0)
+      → v1 ≡ fourSteps d0 d1 d2 d3 w1 w0 w3 w2 (getD after (32 * half + 8 + i) 0)
+      → v2 ≡ fourSteps d0 d1 d2 d3 w2 w3 w0 w1 (getD after (32 * half + 16 + i) 0)
+      → v3 ≡ fourSteps d0 d1 d2 d3 w3 w2 w1 w0 (getD after (32 * half + 24 + i) 0)
+      → LanesMapped (stepsAt copies d q) half (i + 1) before (set (set (set (set after (32 * half + i) v0) (32 * half + 8 + i) v1) (32 * half + 16 + i) v2) (32 * half + 24 + i) v3))
   unfolding _⊕_
   lanes-steps v0 v1 v2 v3 s0 s1 s2 s3 =
       let from = 32 * (q ⊕ half) in

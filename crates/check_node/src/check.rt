@@ -11,5 +11,5 @@ pub fn check_node(theta: &[u16; 64], x: &[u16; 64]) -> [u16; 64]
 {
     let low_theta = low_bits(theta);
     let low_x = low_bits(x);
-    least_sums(&low_theta, &low_x)
+    least_sums(low_theta, &low_x)
 }

@@ -2,22 +2,7 @@
 use reorder::swapped;
 ghost use mathlib.Core.Path.{_≡_};
 ghost use lib.ListN.{length};
-ghost use Rattle.reorder.specs.Parts.{Small};
-ghost use Rattle.check_node.specs.Steps.{raised, AreCopies};
-
-// Each entry plus 8,191.
-pub(crate) fn raised(v: &[u16; 64]) -> [u16; 64]
-    requires { ⌜ Small (now v) ⌝ }
-    ensures { λ r. ⌜ r ≡ raised (now (v .entry)) ⌝ }
-{
-    let mut r = [0u16; 64];
-    let mut i: usize = 0;
-    while i < 64 {
-        r[i] = v[i] + 8191;
-        i += 1;
-    }
-    r
-}
+ghost use Rattle.check_node.specs.Steps.{AreCopies};
 
 // Eight copies of a vector, one after the other: copy k has the entries i and i + k (the field's sum) exchanged.
 pub(crate) fn copies(v: [u16; 64]) -> [u16; 512]

@@ -2,6 +2,7 @@
 // shaped for the compiler, which works on eight entries at a time.
 mod check;
 mod copies;
+mod differences;
 mod steps;
 
 pub use check::check_node;

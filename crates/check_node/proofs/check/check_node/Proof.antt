@@ -14,11 +14,11 @@ low-bits-requires-2 c κs = search needs
 
 least-sums-requires : tie.Need-least-sums-requires
 least-sums-requires c κs =
-    let a = c .before .before .before .before .args in
-    (low-small (a .theta .now) (c .before .before .before .low-bits .ensures), low-small (a .x .now) (c .before .before .low-bits2 .ensures))
+    let a = c .before .before .before .args in
+    (low-small (a .theta .now) (c .before .before .low-bits .ensures), low-small (a .x .now) (c .before .low-bits2 .ensures))
 
 returns : tie.Need-returns
-returns c = c .least-sums .ensures ∙ ap₂ checkFrom (c .before .before .before .before .low-bits .ensures) (c .before .before .before .low-bits2 .ensures)
+returns c = c .least-sums .ensures ∙ ap₂ checkFrom (c .before .before .before .low-bits .ensures) (c .before .before .low-bits2 .ensures)
 
 pub check-node-spec : {M : Type 1} → statement M
 check-node-spec =

@@ -1,19 +1,18 @@
 -- `all_steps` meets its contract: the values of the halves before this one have taken their steps.
-use Prim.Native.Nat.{ℕ, _+_, _-_, _*_, _≤_}
+use Prim.Native.Nat.{_-_, _*_, _≤_}
 use native.Mathlib.Omega.{arith}
 use borrow.Author.Needs.{needs}
-use mathlib.Core.Path.{sym, subst}
 use Rattle.reorder.specs.Parts.{Mapped}
-use Rattle.check_node.specs.Steps.{Held, stepsAt}
+use Rattle.check_node.specs.Steps.{stepsAt}
 use Rattle.reorder.proofs.LoopLaws.{map-none, map-join, map-all}
 use Rattle.check_node.proofs.steps.all_steps.Statement.{statement}
 use Rattle.check_node.proofs.steps.all_steps.Tie as tie
 
 abbrev Inv-loop : tie.InvT-loop
-Inv-loop copies x q y r₀ half₀ r half = Mapped (stepsAt copies x q y) 0 (32 * half) r₀ r × (half ≤ 2)
+Inv-loop copies d q r₀ half₀ r half = Mapped (stepsAt copies d q) 0 (32 * half) r₀ r × (half ≤ 2)
 
 abbrev μ-loop : tie.MeasureT-loop
-μ-loop copies x q y r₀ half₀ r half = 2 - half
+μ-loop copies d q r₀ half₀ r half = 2 - half
 
 loop-holds : tie.Need-loop-holds Inv-loop μ-loop
 loop-holds c = (map-none (omega arith) (c .pre .2), omega arith)
@@ -22,14 +21,7 @@ half-steps-requires : tie.Need-half-steps-requires Inv-loop μ-loop
 half-steps-requires c κs =
     let head = c .before in
     let start = head .before in
-    let at = head .loop in
-    let y = start .args .y in (
-      start .pre .0,
-      start .pre .1,
-      omega arith,
-      at .inv .0 .long,
-      λ b l m. subst (λ (k : ℕ). Held (k + y)) (sym (at .inv .0 .later b m)) (start .pre .3 b l),
-    )
+    (start .pre .0, start .pre .1, omega arith, head .loop .inv .0 .long)
 
 add-half : tie.Need-add-half Inv-loop μ-loop
 add-half c = search needs
@@ -47,4 +39,5 @@ returns c = map-all (c .before .loop .inv .0) (omega arith)
 
 pub all-steps-spec : {M : Type 1} → statement M
 all-steps-spec =
-    tie.close (tie.spec Inv-loop μ-loop loop-holds half-steps-requires add-half loop-less loop-again returns)
+    tie.close
+    (tie.spec Inv-loop μ-loop loop-holds half-steps-requires add-half loop-less loop-again returns)

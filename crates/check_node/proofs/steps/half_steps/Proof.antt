@@ -5,16 +5,16 @@ use borrow.Author.Needs.{needs}
 use lib.Bits.{bitXor, xor-lt}
 use lib.ListN.{getD}
 use Rattle.gf64.specs.Field.{_⊕_}
-use Rattle.check_node.specs.Steps.{Raised, FourSmall, firstOf, stepsAt}
-use Rattle.check_node.proofs.StepLaws.{LanesMapped, lanes-none, lanes-held, lanes-steps, lanes-all}
+use Rattle.check_node.specs.Steps.{firstOf, stepsAt}
+use Rattle.check_node.proofs.StepLaws.{LanesMapped, lanes-none, lanes-steps, lanes-all}
 use Rattle.check_node.proofs.steps.half_steps.Statement.{statement}
 use Rattle.check_node.proofs.steps.half_steps.Tie as tie
 
 abbrev Inv-loop : tie.InvT-loop
-Inv-loop copies x q y half first to from x0 x1 x2 x3 r₀ i₀ r i = LanesMapped (stepsAt copies x q y) half i r₀ r × (i ≤ 8) × (from ≤ 480)
+Inv-loop copies d q half first to from d0 d1 d2 d3 r₀ i₀ r i = LanesMapped (stepsAt copies d q) half i r₀ r × (i ≤ 8) × (from ≤ 480)
 
 abbrev μ-loop : tie.MeasureT-loop
-μ-loop copies x q y half first to from x0 x1 x2 x3 r₀ i₀ r i = 8 - i
+μ-loop copies d q half first to from d0 d1 d2 d3 r₀ i₀ r i = 8 - i
 
 -- the entry, from the loop's head
 abbrev entry : tie.At-loop Inv-loop μ-loop → tie.Start Inv-loop μ-loop
@@ -24,26 +24,9 @@ entry c = c .before .before .before .before .before
 within : (c : tie.Start Inv-loop μ-loop) → bitXor (c .args .q) (c .args .half) < 16
 within c = let p = c .pre in xor-lt 4 (c .args .q) (c .args .half) (omega arith) (omega arith)
 
--- the four penalties are small
-small-at : (c : tie.Start Inv-loop μ-loop)
-    → FourSmall (getD (c .args .x .now) (firstOf (c .args .q)) 0) (getD (c .args .x .now) (firstOf (c .args .q) + 8) 0) (getD (c .args .x .now) (firstOf (c .args .q) + 16) 0) (getD (c .args .x .now) (firstOf (c .args .q) + 24) 0)
-small-at c =
-    let q = c .args .q in
-    let p = c .pre in
-    record {
-      small0 = p .0 .small (firstOf q) (omega arith);
-      small1 = p .0 .small (firstOf q + 8) (omega arith);
-      small2 = p .0 .small (firstOf q + 16) (omega arith);
-      small3 = p .0 .small (firstOf q + 24) (omega arith);
-    }
-
 -- the sizes in a turn of the loop
-room : (c : tie.In-loop Inv-loop μ-loop) → (entry (c .before) .args .half < 2) × (c .before .loop .i < 8) × (bitXor (entry (c .before) .args .q) (entry (c .before) .args .half) < 16)
-room c = let p = entry (c .before) .pre in (omega arith, omega arith, within (entry (c .before)))
-
--- what is read of the copies is raised
-raised-at : (c : tie.In-loop Inv-loop μ-loop) (n : ℕ) → n < 512 → Raised (getD (entry (c .before) .args .copies .now) n 0)
-raised-at c n l = entry (c .before) .pre .0 .raised n l
+room : (c : tie.In-loop Inv-loop μ-loop) → (entry (c .before) .args .half < 2) × (c .before .loop .i < 8)
+room c = let p = entry (c .before) .pre in (omega arith, omega arith)
 
 mul-first : tie.Need-mul-first Inv-loop μ-loop
 mul-first c = search needs
@@ -57,38 +40,50 @@ mul-to c = search needs
 mul-from : tie.Need-mul-from Inv-loop μ-loop
 mul-from c = let l = within c in omega arith
 
-mul-x0 : tie.Need-mul-x0 Inv-loop μ-loop
-mul-x0 c = search needs
+mul-d0 : tie.Need-mul-d0 Inv-loop μ-loop
+mul-d0 c = search needs
 
-element-copy-out-x0 : tie.Need-element-copy-out-x0 Inv-loop μ-loop
-element-copy-out-x0 c = search needs
+element-copy-out-d0 : tie.Need-element-copy-out-d0 Inv-loop μ-loop
+element-copy-out-d0 c = search needs
 
-add-x1 : tie.Need-add-x1 Inv-loop μ-loop
-add-x1 c = search needs
+cast-d0 : tie.Need-cast-d0 Inv-loop μ-loop
+cast-d0 c = omega (arith, c .before .pre .0 (firstOf (c .before .args .q)) (omega arith))
 
-mul-x1 : tie.Need-mul-x1 Inv-loop μ-loop
-mul-x1 c = search needs
+add-d1 : tie.Need-add-d1 Inv-loop μ-loop
+add-d1 c = search needs
 
-element-copy-out-x1 : tie.Need-element-copy-out-x1 Inv-loop μ-loop
-element-copy-out-x1 c = search needs
+mul-d1 : tie.Need-mul-d1 Inv-loop μ-loop
+mul-d1 c = search needs
 
-add-x2 : tie.Need-add-x2 Inv-loop μ-loop
-add-x2 c = search needs
+element-copy-out-d1 : tie.Need-element-copy-out-d1 Inv-loop μ-loop
+element-copy-out-d1 c = search needs
 
-mul-x2 : tie.Need-mul-x2 Inv-loop μ-loop
-mul-x2 c = search needs
+cast-d1 : tie.Need-cast-d1 Inv-loop μ-loop
+cast-d1 c = omega (arith, c .before .before .pre .0 (firstOf (c .before .before .args .q) + 8) (omega arith))
 
-element-copy-out-x2 : tie.Need-element-copy-out-x2 Inv-loop μ-loop
-element-copy-out-x2 c = search needs
+add-d2 : tie.Need-add-d2 Inv-loop μ-loop
+add-d2 c = search needs
 
-add-x3 : tie.Need-add-x3 Inv-loop μ-loop
-add-x3 c = search needs
+mul-d2 : tie.Need-mul-d2 Inv-loop μ-loop
+mul-d2 c = search needs
 
-mul-x3 : tie.Need-mul-x3 Inv-loop μ-loop
-mul-x3 c = search needs
+element-copy-out-d2 : tie.Need-element-copy-out-d2 Inv-loop μ-loop
+element-copy-out-d2 c = search needs
 
-element-copy-out-x3 : tie.Need-element-copy-out-x3 Inv-loop μ-loop
-element-copy-out-x3 c = search needs
+cast-d2 : tie.Need-cast-d2 Inv-loop μ-loop
+cast-d2 c = omega (arith, c .before .before .before .pre .0 (firstOf (c .before .before .before .args .q) + 16) (omega arith))
+
+add-d3 : tie.Need-add-d3 Inv-loop μ-loop
+add-d3 c = search needs
+
+mul-d3 : tie.Need-mul-d3 Inv-loop μ-loop
+mul-d3 c = search needs
+
+element-copy-out-d3 : tie.Need-element-copy-out-d3 Inv-loop μ-loop
+element-copy-out-d3 c = search needs
+
+cast-d3 : tie.Need-cast-d3 Inv-loop μ-loop
+cast-d3 c = omega (arith, c .before .before .before .before .pre .0 (firstOf (c .before .before .before .before .args .q) + 24) (omega arith))
 
 loop-holds : tie.Need-loop-holds Inv-loop μ-loop
 loop-holds c = let l = within (c .before .before .before .before) in (lanes-none (c .before .before .before .before .pre .3), omega arith, omega arith)
@@ -184,17 +179,7 @@ element-copy-out-b3 : tie.Need-element-copy-out-b3 Inv-loop μ-loop
 element-copy-out-b3 c = search needs
 
 lane-steps-requires : tie.Need-lane-steps-requires Inv-loop μ-loop
-lane-steps-requires c κs =
-    let turn = c .before .before .before .before in
-    let a = entry (turn .before) .args in
-    let r = room turn in (
-      lanes-held (a .copies .now) (a .x .now) (a .q) (a .y) (turn .before .loop .inv .0) (r .0) (r .1) (entry (turn .before) .pre .4),
-      small-at (entry (turn .before)),
-      raised-at turn _ (omega arith),
-      raised-at turn _ (omega arith),
-      raised-at turn _ (omega arith),
-      raised-at turn _ (omega arith),
-    )
+lane-steps-requires c κs = search needs
 
 mul-r : tie.Need-mul-r Inv-loop μ-loop
 mul-r c = search needs
@@ -233,7 +218,7 @@ loop-again c =
     let r = room turn in
     let a = entry (turn .before) .args in
     let made = c .lane-steps .ensures in
-    (lanes-steps (a .copies .now) (a .x .now) (a .q) (a .y) (turn .before .loop .inv .0) (r .0) (r .1) _ _ _ _ (made .0) (made .1) (made .2) (made .3), omega arith, turn .before .loop .inv .2)
+    (lanes-steps (a .copies .now) (a .d .now) (a .q) (turn .before .loop .inv .0) (r .0) (r .1) _ _ _ _ (made .0) (made .1) (made .2) (made .3), omega arith, turn .before .loop .inv .2)
 
 returns : tie.Need-returns Inv-loop μ-loop
 returns c = lanes-all (c .before .loop .inv .0) (omega arith)
@@ -248,17 +233,21 @@ half-steps-spec =
     add-first
     mul-to
     mul-from
-    mul-x0
-    element-copy-out-x0
-    add-x1
-    mul-x1
-    element-copy-out-x1
-    add-x2
-    mul-x2
-    element-copy-out-x2
-    add-x3
-    mul-x3
-    element-copy-out-x3
+    mul-d0
+    element-copy-out-d0
+    cast-d0
+    add-d1
+    mul-d1
+    element-copy-out-d1
+    cast-d1
+    add-d2
+    mul-d2
+    element-copy-out-d2
+    cast-d2
+    add-d3
+    mul-d3
+    element-copy-out-d3
+    cast-d3
     loop-holds
     add-p0
     add-p1

@@ -1,69 +1,42 @@
--- `least_sums` meets its contract: what is held for each value, plus the last penalty, is the least sum of the steps taken, plus 8,191.
+-- `least_sums` meets its contract: what is held for each value is the least sum of the steps taken, less the last penalty.
+use mathlib.Core.Path.{_≡_, sym, _∙_, subst}
 use Prim.Native.Nat.{ℕ, _+_, _-_, _*_, _≤_, _<_}
 use native.Mathlib.Omega.{arith}
 use borrow.Author.Needs.{needs}
-use mathlib.Core.Path.{_≡_, sym, ap, _∙_, subst}
-use mathlib.Core.List.{List}
 use lib.ListN.{length, getD}
+use Rattle.vector.specs.Vector.{AtMost}
 use Rattle.vector.proofs.Laws.{tabulate-ext}
-use Rattle.check_node.specs.Steps.{raised, lowered, leastSum, penaltyBefore, AreCopies, Held}
-use Rattle.check_node.proofs.LeastLaws.{raised-long, given, least-held, first-held, column-least, sums-are-node}
+use Rattle.check_node.specs.Steps.{summed}
+use Rattle.check_node.proofs.DifferenceLaws.{differences-most}
+use Rattle.check_node.proofs.LeastLaws.{Holds, at-step, none-hold, column-holds, all-hold, sums-are-node}
 use Rattle.check_node.proofs.steps.least_sums.Statement.{statement}
 use Rattle.check_node.proofs.steps.least_sums.Tie as tie
 
 abbrev Inv-loop : tie.InvT-loop
-Inv-loop theta x copied r₀ y₀ column₀ r y column =
-    (column ≤ 8) × (length r ≡ 64) × ((b : ℕ) → b < 64 → getD r b 0 + y ≡ leastSum theta x b (8 * column - 1) + 8191)
+Inv-loop x copied d r₀ column₀ r column = (column ≤ 8) × (length r ≡ 64) × ((b : ℕ) → b < 64 → Holds r₀ x b (8 * column) (getD r b 0))
 
 abbrev μ-loop : tie.MeasureT-loop
-μ-loop theta x copied r₀ y₀ column₀ r y column = 8 - column
+μ-loop x copied d r₀ column₀ r column = 8 - column
 
--- the copies are those of theta's vector, raised
-copied-are : (c : tie.After-copies Inv-loop μ-loop) → AreCopies 8 (raised (c .before .before .args .theta .now)) (c .copies .result)
-copied-are c = subst (λ (v : List ℕ). AreCopies 8 v (c .copies .result)) (c .before .raised .ensures) (c .copies .ensures)
-
--- what is held for each value
-held-at : (c : tie.At-loop Inv-loop μ-loop) → (b : ℕ) → b < 64 → Held (getD (c .loop .r) b 0 + c .loop .y)
-held-at c b l =
-    let start = c .before .before .before .before in
-    subst Held (sym (c .loop .inv .2 b l)) (least-held (start .args .theta .now) (start .args .x .now) b (8 * c .loop .column - 1) (start .pre .0) (start .pre .1) l)
-
-raised-requires : tie.Need-raised-requires Inv-loop μ-loop
-raised-requires c κs = search needs
+-- the entry, from the loop's head
+abbrev entry : tie.At-loop Inv-loop μ-loop → tie.Start Inv-loop μ-loop
+entry c = c .before .before .before
 
 copies-requires : tie.Need-copies-requires Inv-loop μ-loop
 copies-requires c κs = search needs
 
-element-copy-out-y : tie.Need-element-copy-out-y Inv-loop μ-loop
-element-copy-out-y c = search needs
+wide-differences-requires : tie.Need-wide-differences-requires Inv-loop μ-loop
+wide-differences-requires c κs = search needs
 
 loop-holds : tie.Need-loop-holds Inv-loop μ-loop
 loop-holds c =
-    let a = c .before .before .before .args in
-    let e = c .before .before .raised .ensures in (
-      omega arith,
-      ap length e ∙ raised-long (a .theta .now),
-      λ b l. ap (λ (v : List ℕ). getD v b 0 + getD (a .x .now) 0 0) e ∙ first-held (a .theta .now) (a .x .now) b l,
-    )
+    let start = c .before .before in
+    (omega arith, start .pre .0 .long, λ b l. none-hold (start .args .theta) (start .args .x .now) b (start .pre .0) (start .pre .1) l)
 
 column-steps-requires : tie.Need-column-steps-requires Inv-loop μ-loop
 column-steps-requires c κs =
-    let head = c .before .before in
-    let start = head .before .before .before .before in (
-      given (start .args .theta .now) (copied-are (head .before .before)) (start .pre .0) (start .pre .1),
-      omega arith,
-      head .loop .inv .1,
-      held-at head,
-    )
-
-add-y : tie.Need-add-y Inv-loop μ-loop
-add-y c = search needs
-
-mul-y : tie.Need-mul-y Inv-loop μ-loop
-mul-y c = search needs
-
-element-copy-out-y-2 : tie.Need-element-copy-out-y-2 Inv-loop μ-loop
-element-copy-out-y-2 c = search needs
+    let head = c .before .before .before in
+    (subst (AtMost 65535) (sym (head .before .wide-differences .ensures)) (differences-most (entry head .args .x .now)), omega arith, head .loop .inv .1)
 
 add-column : tie.Need-add-column Inv-loop μ-loop
 add-column c = search needs
@@ -72,40 +45,35 @@ loop-less : tie.Need-loop-less Inv-loop μ-loop
 loop-less c = search needs
 
 loop-again : tie.Need-loop-again Inv-loop μ-loop
-unfolding penaltyBefore
 loop-again c =
     let head = c .before .before .before .before in
-    let start = head .before .before .before .before in
-    let theta = start .args .theta .now in
-    let x = start .args .x .now in
+    let start = entry head in
     let column = head .loop .column in
-    let m = c .before .column-steps .ensures in
+    let m = c .column-steps .ensures in
     let l : column < 8 = omega arith in
-    let k : column + 56 ≡ 32 * 1 + column + 24 = omega arith in
-    let n : 8 * column + 4 * 2 - 1 ≡ 8 * (column + 1) - 1 = omega arith in (
+    let n : 8 * column + 4 * 2 ≡ 8 * (column + 1) = omega arith in (
       omega arith,
       m .long,
       λ b s.
-          ap (λ (i : ℕ). getD (c .before .column-steps .result) b 0 + getD x i 0) k
-          ∙ ap (λ (z : ℕ). z + getD x (32 * 1 + column + 24) 0) (m .done b (omega arith) s)
-          ∙ column-least theta b (copied-are (head .before .before)) (start .pre .1) s column (head .loop .y) _ l (head .loop .inv .2 b s) 2 (omega arith)
-          ∙ ap (λ (i : ℕ). leastSum theta x b i + 8191) n,
+          subst (Holds (start .args .theta) (start .args .x .now) b (8 * (column + 1))) (sym (m .done b (omega arith) s))
+          (at-step n (column-holds (start .args .theta) b (head .before .before .copies .ensures) (head .before .wide-differences .ensures) (start .pre .0) (start .pre .1) s column _ l (head .loop .inv .2 b s) 2 (omega arith))),
     )
 
-lowered-requires : tie.Need-lowered-requires Inv-loop μ-loop
-lowered-requires c κs = held-at (c .before .before)
+element-copy-out-summed : tie.Need-element-copy-out-summed Inv-loop μ-loop
+element-copy-out-summed c = search needs
+
+summed-requires : tie.Need-summed-requires Inv-loop μ-loop
+summed-requires c κs = search needs
 
 returns : tie.Need-returns Inv-loop μ-loop
-unfolding lowered
+unfolding summed
 returns c =
-    let head = c .before .before .before in
-    let start = head .before .before .before .before in
-    let n : 8 * head .loop .column - 1 ≡ 63 = omega arith in
-    c .lowered .ensures
-    ∙ tabulate-ext 64 _ _ (λ b l.
-    let e = head .loop .inv .2 b l ∙ ap (λ (k : ℕ). leastSum (start .args .theta .now) (start .args .x .now) b k + 8191) n in
-    omega arith)
-    ∙ sums-are-node (start .args .theta .now) (start .args .x .now)
+    let head = c .before .before .before .before in
+    let start = entry head in
+    let n : 8 * head .loop .column ≡ 64 = omega arith in
+    c .summed .ensures
+    ∙ tabulate-ext 64 _ _ (λ b l. all-hold (head .loop .inv .2 b l) n)
+    ∙ sums-are-node (start .args .theta) (start .args .x .now)
 
 pub least-sums-spec : {M : Type 1} → statement M
 least-sums-spec =
@@ -113,16 +81,13 @@ least-sums-spec =
     (tie.spec
     Inv-loop
     μ-loop
-    raised-requires
     copies-requires
-    element-copy-out-y
+    wide-differences-requires
     loop-holds
     column-steps-requires
-    add-y
-    mul-y
-    element-copy-out-y-2
     add-column
     loop-less
     loop-again
-    lowered-requires
+    element-copy-out-summed
+    summed-requires
     returns)
