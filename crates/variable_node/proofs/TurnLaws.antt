@@ -1,5 +1,5 @@
 -- The laws of a vector that is turned by a symbol: its entries i and i ⊕ u exchanged, by the three low bits of u within eight neighbours, and by the
--- three high bits from eight to eight.
+-- three high bits eight by eight.
 use mathlib.Core.Path.{_≡_, refl, ap, ap₂, _∙_}
 use mathlib.Core.Bool.{Bool, _&&_}
 use mathlib.Core.List.{List}
@@ -8,7 +8,9 @@ use native.Mathlib.Omega.{arith}
 use lib.Dec.{T, ltb, eqb, ltb→lt, eqb→eq}
 use lib.ListN.{getD}
 use Rattle.gf64.specs.Field.{_⊕_}
+use Rattle.gf64.proofs.SumLaws.{sum-comm}
 use Rattle.gf64.proofs.Table.{and-left, and-right, all, all-at}
+use Rattle.scms.specs.Nodes.{sumAt}
 use Rattle.reorder.specs.Parts.{swapped}
 use Rattle.reorder.proofs.SwapLaws.{swapped-at}
 
@@ -42,13 +44,13 @@ not-one zero l n = refl
 not-one (suc zero) l n = absurd (n refl)
 not-one (suc (suc b)) l n = absurd (omega arith)
 
--- where a vector turned by the low bits of u has its entry at u ⊕ b
+-- where a vector turned by the low bits of u has its entry at b ⊕ u
 abbrev place : (u b : ℕ) → ℕ
 place u b = 8 * ((b / 8) ⊕ (u / 8)) + b % 8
 
 -- the test of one symbol u and one value b
 placeOk : (u b : ℕ) → Bool
-placeOk u b = ltb (place u b) 64 && eqb (place u b ⊕ (u % 8)) (u ⊕ b)
+placeOk u b = ltb (place u b) 64 && eqb (place u b ⊕ (u % 8)) (b ⊕ u)
 
 -- the tests of one symbol
 symbolOk : ℕ → Bool
@@ -65,13 +67,19 @@ place-at : (u b : ℕ) → u < 64 → b < 64 → T (placeOk u b)
 unfolding symbolOk
 place-at u b hu hb = all-at (placeOk u) 64 (all-at symbolOk 64 every-place u hu) b hb
 
--- an entry of a vector that was turned by the low bits, read from eight to eight by the high ones
-pub turned-at : {t : List ℕ} (theta : List ℕ) (u b : ℕ) → t ≡ swapped theta (u % 8) → u < 64 → b < 64 → getD t (8 * ((b / 8) ⊕ (u / 8)) + b % 8) 0 ≡ getD theta (u ⊕ b) 0
+-- an entry of a vector that was turned by the low bits, read eight by eight by the high ones
+pub turned-at : {t : List ℕ} (theta : List ℕ) (u b : ℕ) → t ≡ swapped theta (u % 8) → u < 64 → b < 64 → getD t (8 * ((b / 8) ⊕ (u / 8)) + b % 8) 0 ≡ getD theta (b ⊕ u) 0
 unfolding placeOk
 turned-at theta u b e hu hb =
     let first = ltb (place u b) 64 in
-    let second = eqb (place u b ⊕ (u % 8)) (u ⊕ b) in
+    let second = eqb (place u b ⊕ (u % 8)) (b ⊕ u) in
     let within = ltb→lt (place u b) 64 (and-left first second (place-at u b hu hb)) in
     ap (λ (v : List ℕ). getD v (place u b) 0) e
     ∙ swapped-at theta (u % 8) (place u b) within
-    ∙ ap (λ (k : ℕ). getD theta k 0) (eqb→eq (place u b ⊕ (u % 8)) (u ⊕ b) (and-right first second (place-at u b hu hb)))
+    ∙ ap (λ (k : ℕ). getD theta k 0) (eqb→eq (place u b ⊕ (u % 8)) (b ⊕ u) (and-right first second (place-at u b hu hb)))
+
+-- a sum of a variable node, from the vector that was turned by u
+pub turned-sum : {t : List ℕ} (theta x : List ℕ) (u c : ℕ) → t ≡ swapped theta u → c < 64 → getD t c 0 + getD x c 0 ≡ sumAt theta x u c
+turned-sum theta x u c e l =
+    ap (λ (v : List ℕ). getD v c 0 + getD x c 0) e
+    ∙ ap (λ (y : ℕ). y + getD x c 0) (swapped-at theta u c l ∙ ap (λ (k : ℕ). getD theta k 0) (sum-comm c u))

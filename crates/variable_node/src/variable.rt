@@ -1,65 +1,26 @@
-// The variable node of a kernel: sums, eight at a time; these less the least; and clipped.
+// The variable node of a kernel, by plain loops: the sums; the least of them, and each less the least; and the clip.
+use crate::turn::turned;
 use reorder::low_bits;
-use reorder::swapped;
 ghost use mathlib.Core.Path.{_≡_};
 ghost use mathlib.Core.Bool.{cond};
-ghost use Prim.Native.Nat.{_+_, _*_, _%_, _/_, _<_, _≤_, min};
+ghost use Prim.Native.Nat.{_<_, _≤_, min};
 ghost use lib.Dec.{ltb};
-ghost use lib.ListN.{length, getD};
 ghost use Rattle.scms.specs.Nodes.{clipped, exceeding};
-ghost use Rattle.reorder.specs.Parts.{Small, swapped, Mapped};
+ghost use Rattle.reorder.specs.Parts.{Small};
 ghost use Rattle.variable_node.specs.Parts.{sumsFrom, IsVariableNode};
 
-// A vector with its entries i and i + u mod 8 (the field's sum) exchanged: for each of u's three low bits that is set, neighbours at that distance.
-// Starting from a copy saves the compiler a move of the whole vector where the first of the bits is not set.
-fn turned(v: &[u16; 64], u: usize) -> [u16; 64]
-    requires { ⌜ length (now v) ≡ 64 ⌝ }
-    ensures { λ r. ⌜ r ≡ swapped (now (v .entry)) (u % 8) ⌝ }
-{
-    let by0 = *v;
-    let by1 = if u % 2 == 1 { swapped(&by0, 1) } else { by0 };
-    let by2 = if u / 2 % 2 == 1 {
-        swapped(&by1, 2)
-    } else {
-        by1
-    };
-    if u / 4 % 2 == 1 {
-        swapped(&by2, 4)
-    } else {
-        by2
-    }
-}
-
-// Eight sums of a variable node, those from 8 block on, of which the entries of theta's vector stand from `from` on.
-fn block_sums(t: &[u16; 64], x: &[u16; 64], to: [u16; 64], block: usize, from: usize) -> [u16; 64]
-    requires { ⌜ Small (now t) × Small (now x) × (block < 8) × (length to ≡ 64) × (from ≤ 56) ⌝ }
-    ensures { λ r. ⌜ Mapped (λ b _. getD (now (t .entry)) (from + b % 8) 0 + getD (now (x .entry)) b 0) (8 * block) (8 * block + 8) to r ⌝ }
-{
-    let at = 8 * block;
-    let mut r = to;
-    let mut i: usize = 0;
-    while i < 8 {
-        r[at + i] = t[from + i] + x[at + i];
-        i += 1;
-    }
-    r
-}
-
 // The sums of a variable node, theta's symbol being u and x phi's vector in the order of c: for each c, theta's penalty at u + c (the field's sum) plus
-// x's at c.
+// x's at c. Theta's vector is put in the order of u + c first, so that the loop reads neighbours.
 fn sums(theta: &[u16; 64], x: &[u16; 64], u: u8) -> [u16; 64]
     requires { ⌜ (u < 64) × Small (now theta) × Small (now x) ⌝ }
     ensures { λ r. ⌜ r ≡ sumsFrom u (now (theta .entry)) (now (x .entry)) ⌝ }
 {
-    let symbol = u as usize;
-    let t = turned(theta, symbol);
+    let t = turned(theta, u);
     let mut r = [0u16; 64];
-    let mut block: usize = 0;
-    while block < 8 {
-        let from = 8 * (block ^ (symbol / 8));
-        let next = block_sums(&t, x, r, block, from);
-        r = next;
-        block += 1;
+    let mut c: usize = 0;
+    while c < 64 {
+        r[c] = t[c] + x[c];
+        c += 1;
     }
     r
 }

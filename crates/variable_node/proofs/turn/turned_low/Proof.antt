@@ -1,4 +1,4 @@
--- `turned` meets its contract: after each test the vector is turned by the bits tested.
+-- `turned_low` meets its contract: after each test the vector is turned by the bits tested.
 use Prim.Native.Nat.{ℕ, _-_, _*_, _/_, _%_}
 use native.Mathlib.Omega.{arith}
 use borrow.Author.Needs.{needs}
@@ -9,8 +9,8 @@ use Rattle.reorder.specs.Parts.{swapped}
 use Rattle.reorder.proofs.SwapLaws.{swapped-none, swapped-again}
 use Rattle.variable_node.proofs.TurnLaws.{low-bits, not-one}
 use Rattle.gf64.proofs.SumLaws.{zero-sum}
-use Rattle.variable_node.proofs.variable.turned.Statement.{statement}
-use Rattle.variable_node.proofs.variable.turned.Tie as tie
+use Rattle.variable_node.proofs.turn.turned_low.Statement.{statement}
+use Rattle.variable_node.proofs.turn.turned_low.Tie as tie
 
 -- what a test leaves: the vector turned by the bits that were tested
 after1 : (c : tie.Joined1) → c .if1 .by1 ≡ swapped (c .before .before .args .v .now) (c .before .before .args .u % 2)
@@ -53,6 +53,6 @@ returns-2 c =
     after2 (c .before)
     ∙ ap (swapped (a .v .now)) (sym (zero-sum low) ∙ ap (λ (b : ℕ). (b * 4) ⊕ low) (not-one (a .u / 4 % 2) (omega arith) (c .if3 .left)) ∙ low-bits (a .u))
 
-pub turned-spec : {M : Type 1} → statement M
-turned-spec =
+pub turned-low-spec : {M : Type 1} → statement M
+turned-low-spec =
     tie.close (tie.spec swapped-requires swapped-requires-2 swapped-requires-3 returns returns-2)
