@@ -1,11 +1,11 @@
 -- The laws of the order of the steps of a check node, and of the differences of penalties in that order.
-use mathlib.Core.Path.{_≡_, refl, sym, ap, _∙_, subst}
+use mathlib.Core.Path.{_≡_, sym, ap, _∙_, subst}
 use mathlib.Core.List.{List}
-use Prim.Native.Nat.{ℕ, _+_, _-_, _*_, _/_, _%_, _≤_, _<_}
+use Prim.Native.Nat.{ℕ, _+_, _-_, _%_, _≤_, _<_}
 use native.Mathlib.Decide.{decLt}
 use native.Mathlib.Omega.{arith}
 use lib.ListN.{length, getD}
-use Rattle.vector.specs.Vector.{tabulate, AtMost}
+use Rattle.vector.specs.Vector.{AtMost}
 use Rattle.vector.proofs.Laws.{length-tabulate, getD-tabulate, tabulate-by}
 use Rattle.reorder.specs.Parts.{Small, Mapped}
 use Rattle.check_node.specs.Steps.{byColumns, penaltiesBefore, differences}

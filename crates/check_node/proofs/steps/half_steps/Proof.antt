@@ -1,9 +1,8 @@
 -- `half_steps` meets its contract: in each block of the half the values before i have taken their steps.
-use Prim.Native.Nat.{ℕ, _+_, _-_, _≤_, _<_}
+use Prim.Native.Nat.{_+_, _-_, _≤_, _<_}
 use native.Mathlib.Omega.{arith}
 use borrow.Author.Needs.{needs}
 use lib.Bits.{bitXor, xor-lt}
-use lib.ListN.{getD}
 use Rattle.gf64.specs.Field.{_⊕_}
 use Rattle.check_node.specs.Steps.{firstOf, stepsAt}
 use Rattle.check_node.proofs.StepLaws.{LanesMapped, lanes-none, lanes-steps, lanes-all}
