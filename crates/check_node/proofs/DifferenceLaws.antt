@@ -73,7 +73,7 @@ differences-most x c l =
     let e = getD-tabulate 0 64 (λ k. (getD (penaltiesBefore x) k 0 + 65536 - getD x k 0) % 65536) c l in
     omega arith
 
--- at each step but the first the difference leads back to the penalty of the step before
+-- the difference at a step leads back to the penalty of the step before, at the first step to its own
 pub difference-at : (x : List ℕ) → Small x → (k : ℕ) → k < 64 → (getD (differences x) (byColumns k) 0 + getD x (byColumns k) 0) % 65536 ≡ getD x (byColumns (k - 1)) 0
 unfolding differences penaltiesBefore
 difference-at x s k l =

@@ -40,10 +40,11 @@ moved-is held y d x m e f = omega arith
 rank-is : (m x sum : ℕ) → m < 65536 → (m + x) % 65536 ≡ sum → sum ≤ 16382 → x ≤ 8191 → signedRank m + x ≡ sum + 32768
 rank-is m x sum l e ls lx = omega arith
 
--- so two of them are compared as the sums are
+-- so two of them are compared as the sums are: where it comes before w's
 below : (m w x sum : ℕ) → signedRank m + x ≡ sum + 32768 → w ≤ 8191 → signedRank m < signedRank w → sum ≤ w + x
 below m w x sum e l t = let other : signedRank w ≡ w + 32768 = omega arith in omega arith
 
+-- and where it does not
 not-below : (m w x sum : ℕ) → signedRank m + x ≡ sum + 32768 → w ≤ 8191 → signedRank w ≤ signedRank m → w + x ≤ sum
 not-below m w x sum e l t = let other : signedRank w ≡ w + 32768 = omega arith in omega arith
 
