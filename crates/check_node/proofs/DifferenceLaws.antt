@@ -21,17 +21,17 @@ unfolding byColumns
 columns-twice k h = omega arith
 
 -- the value before a value: for 1 to 7 the last one of the column before
-first-before : (c : ℕ) → 1 ≤ c → c < 8 → byColumns (byColumns c - 1) ≡ c + 55
+first-before : (c : ℕ) → 1 ≤ c → c < 8 → byColumns (byColumns c - 1) ≡ 56 + c - 1
 unfolding byColumns
 first-before c l h = omega arith
 
 -- from 8 on the one above it in its column
-later-before : (c : ℕ) → 8 ≤ c → c < 64 → byColumns (byColumns c - 1) ≡ c - 8
+later-before : (c : ℕ) → 8 ≤ c → c < 64 → byColumns (byColumns c - 1) ≡ 0 + c - 8
 unfolding byColumns
 later-before c l h = omega arith
 
 -- the penalties before, in two parts
-pub before-all : {x first r : List ℕ} → Mapped (λ c _. getD x (c + 55) 0) 1 8 x first → Mapped (λ c _. getD x (c - 8) 0) 8 64 first r → r ≡ penaltiesBefore x
+pub before-all : {x first r : List ℕ} → Mapped (λ c _. getD x (56 + c - 1) 0) 1 8 x first → Mapped (λ c _. getD x (0 + c - 8) 0) 8 64 first r → r ≡ penaltiesBefore x
 unfolding penaltiesBefore byColumns
 before-all {x} {first} {r} f g = tabulate-by 0 64 _ r (g .long) (λ c l. go c l (decLt c 8) (decLt 0 c))
   where

@@ -40,13 +40,11 @@ moved-is held y d x m e f = omega arith
 rank-is : (m x sum : ℕ) → m < 65536 → (m + x) % 65536 ≡ sum → sum ≤ 16382 → x ≤ 8191 → signedRank m + x ≡ sum + 32768
 rank-is m x sum l e ls lx = omega arith
 
--- so two of them are compared as the sums are: where it comes before w's
-below : (m w x sum : ℕ) → signedRank m + x ≡ sum + 32768 → w ≤ 8191 → signedRank m < signedRank w → sum ≤ w + x
-below m w x sum e l t = let other : signedRank w ≡ w + 32768 = omega arith in omega arith
-
--- and where it does not
-not-below : (m w x sum : ℕ) → signedRank m + x ≡ sum + 32768 → w ≤ 8191 → signedRank w ≤ signedRank m → w + x ≤ sum
-not-below m w x sum e l t = let other : signedRank w ≡ w + 32768 = omega arith in omega arith
+-- so two of them are compared as the sums are
+compared : (m w x sum : ℕ) → signedRank m + x ≡ sum + 32768 → w ≤ 8191 → (signedRank m < signedRank w → sum ≤ w + x) × (signedRank w ≤ signedRank m → w + x ≤ sum)
+compared m w x sum e l =
+    let other : signedRank w ≡ w + 32768 = omega arith in
+    (λ t. omega arith, λ t. omega arith)
 
 -- two penalties' sum does not wrap around
 no-wrap : (w x : ℕ) → w ≤ 8191 → x ≤ 8191 → (w + x) % 65536 ≡ w + x
@@ -57,8 +55,8 @@ step-min : (held y d x w sum : ℕ) → (held + y) % 65536 ≡ sum → (d + x) %
 unfolding step
 step-min held y d x w sum e f ls lx lw =
     by-test (ltb (signedRank m) (signedRank w)) m w (λ z. (z + x) % 65536 ≡ min sum (w + x))
-    (λ t. moved ∙ sym (min-eq-left (below m w x sum rank lw (ltb-true (signedRank m) (signedRank w) t))))
-    (λ t. no-wrap w x lw lx ∙ sym (min-eq-right (not-below m w x sum rank lw (ltb-false (signedRank m) (signedRank w) t))))
+    (λ t. moved ∙ sym (min-eq-left (compared m w x sum rank lw .0 (ltb-true (signedRank m) (signedRank w) t))))
+    (λ t. no-wrap w x lw lx ∙ sym (min-eq-right (compared m w x sum rank lw .1 (ltb-false (signedRank m) (signedRank w) t))))
   where
     m : ℕ
     m = (held + d) % 65536

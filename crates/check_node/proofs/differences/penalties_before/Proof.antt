@@ -1,68 +1,18 @@
--- `penalties_before` meets its contract: the entries from 8 on and before c are replaced.
-use Prim.Native.Nat.{_-_, _≤_}
-use native.Mathlib.Omega.{arith}
+-- `penalties_before` meets its contract: its two parts are those of the penalties before.
 use borrow.Author.Needs.{needs}
-use mathlib.Core.Path.{refl}
-use lib.ListN.{getD}
-use Rattle.reorder.specs.Parts.{Mapped}
-use Rattle.reorder.proofs.LoopLaws.{map-none, map-more, map-all}
 use Rattle.check_node.proofs.DifferenceLaws.{before-all}
 use Rattle.check_node.proofs.differences.penalties_before.Statement.{statement}
 use Rattle.check_node.proofs.differences.penalties_before.Tie as tie
 
-abbrev Inv-loop : tie.InvT-loop
-Inv-loop x r₀ c₀ r c = Mapped (λ k _. getD x (k - 8) 0) 8 c r₀ r × (8 ≤ c) × (c ≤ 64)
+part-replaced-requires : tie.Need-part-replaced-requires
+part-replaced-requires c κs = search needs
 
-abbrev μ-loop : tie.MeasureT-loop
-μ-loop x r₀ c₀ r c = 64 - c
+part-replaced-requires-2 : tie.Need-part-replaced-requires-2
+part-replaced-requires-2 c κs = search needs
 
-first-before-requires : tie.Need-first-before-requires Inv-loop μ-loop
-first-before-requires c κs = search needs
-
-loop-holds : tie.Need-loop-holds Inv-loop μ-loop
-loop-holds c = (map-none refl (c .first-before .ensures .long), omega arith, omega arith)
-
-sub-r : tie.Need-sub-r Inv-loop μ-loop
-sub-r c = search needs
-
-mul-r : tie.Need-mul-r Inv-loop μ-loop
-mul-r c = search needs
-
-element-copy-out-r : tie.Need-element-copy-out-r Inv-loop μ-loop
-element-copy-out-r c = search needs
-
-mul-r-2 : tie.Need-mul-r-2 Inv-loop μ-loop
-mul-r-2 c = search needs
-
-array-write-r : tie.Need-array-write-r Inv-loop μ-loop
-array-write-r c = search needs
-
-add-c : tie.Need-add-c Inv-loop μ-loop
-add-c c = search needs
-
-loop-less : tie.Need-loop-less Inv-loop μ-loop
-loop-less c = search needs
-
-loop-again : tie.Need-loop-again Inv-loop μ-loop
-loop-again c = (map-more (c .before .before .loop .inv .0) (omega arith) (omega arith) refl refl, omega arith, omega arith)
-
-returns : tie.Need-returns Inv-loop μ-loop
-returns c = before-all (c .before .before .first-before .ensures) (map-all (c .before .loop .inv .0) (omega arith))
+returns : tie.Need-returns
+returns c = before-all (c .before .part-replaced .ensures) (c .part-replaced2 .ensures)
 
 pub penalties-before-spec : {M : Type 1} → statement M
 penalties-before-spec =
-    tie.close
-    (tie.spec
-    Inv-loop
-    μ-loop
-    first-before-requires
-    loop-holds
-    sub-r
-    mul-r
-    element-copy-out-r
-    mul-r-2
-    array-write-r
-    add-c
-    loop-less
-    loop-again
-    returns)
+    tie.close (tie.spec part-replaced-requires part-replaced-requires-2 returns)
