@@ -2,9 +2,9 @@
 
 This is a second statement of the rules, written without sight of the proved
 code, used to compute expected results for tests; docs/DECISIONS.md says which
-readings of open points it was given.  It keeps the paper's own names and indices and makes no
-attempt to be fast.  Symbols, map bytes and coefficients are plain integers in
-lists.
+readings of open points are its own.  It keeps the paper's own names and indices
+and makes no attempt to be fast.  Symbols, map bytes and coefficients are plain
+integers in lists.
 
 Sections present: field, transform, frozen map, refusals, encoder, worked rows.
 Spreading and weighing are in chips.py, decoding in decoding.py.

@@ -1,12 +1,16 @@
-// The calls for programs in C and Rust, under names with the prefix zithejo_. Each takes anything: what it can't work on gets the number of a refusal.
-// A slice is two arguments in C, a pointer to its first element and the number of elements.
+// The calls for programs in C and Rust, under names with the prefix zithejo_. Each accepts anything: what it can't work
+// on gets the number of a refusal. A slice is two arguments in C, a pointer to its first element and the number of
+// elements. What no proof can see to is the caller's: each pointer must be valid for its number of elements, that of
+// the count for one number, and what is lent to be written must not overlap anything else that is lent.
 use decoder::Answer;
+ghost use Rattle.polar_code.specs.Code.{codeOf};
+ghost use Rattle.decoder_refusal.specs.Refusals.{settingsOf, lentOf};
 ghost use Rattle.polar.specs.Encode.{Encoded};
 ghost use Rattle.demapper.specs.Demap.{Demapped};
 ghost use Rattle.c_calls.specs.Calls.{DecodeCalled};
 
-// Encodes a message, as `polar::encode`. Returns 0, with the codeword in the buffer lent for it; or the lowest refusal of 1, 2, 4, 5, 6 and 7 that
-// fits, and leaves the buffer as it came.
+// Encodes a message, as `polar::encode`. Returns 0, with the codeword in the buffer lent for it; or the lowest refusal
+// of 1, 2, 4, 5, 6 and 7 that fits, and leaves the buffer as it came.
 #[no_mangle]
 pub extern "C" fn zithejo_encode(
     n: usize,
@@ -15,13 +19,14 @@ pub extern "C" fn zithejo_encode(
     message: &[u8],
     codeword: &mut [u8],
 ) -> u8
-    ensures { λ r. ⌜ Encoded n (now (map .entry)) (now (coefs .entry)) (now (message .entry)) (now (codeword .entry)) (now (codeword .exit)) r ⌝ }
+    ensures { λ r. ⌜ Encoded (codeOf n (now (map .entry)) (now (coefs .entry))) (now (message .entry))
+        (now (codeword .entry)) (now (codeword .exit)) r ⌝ }
 {
     polar::encode(n, map, coefs, message, codeword)
 }
 
-// Weighs samples into penalties, as `demapper::demap`. Returns 0, with the penalties in the buffer lent for them; or the lowest refusal of 2, 3, 10 and 11
-// that fits, and leaves the buffer as it came.
+// Weighs samples into penalties, as `demapper::demap`. Returns 0, with the penalties in the buffer lent for them; or
+// the lowest refusal of 2, 3, 10 and 11 that fits, and leaves the buffer as it came.
 #[no_mangle]
 pub extern "C" fn zithejo_demap(
     base: u64,
@@ -36,8 +41,9 @@ pub extern "C" fn zithejo_demap(
     demapper::demap(base, samples, top, bottom, qc, llrs)
 }
 
-// Decodes a frame, as `decoder::decode`. Returns 0, with the symbols, the report and the count of clipped entries in the places lent for them, and the
-// work buffer all zeros; or the lowest refusal of 1, 2, 3, 4, 5, 6, 8 and 9 that fits, and leaves every buffer and the count as they came.
+// Decodes a frame, as `decoder::decode`. Returns 0, with the symbols, the report and the count of clipped entries in
+// the places lent for them, and the work buffer all zeros; or the lowest refusal of 1, 2, 3, 4, 5, 6, 8 and 9 that
+// fits, and leaves every buffer and the count as they came.
 #[no_mangle]
 pub extern "C" fn zithejo_decode(
     n: usize,
@@ -51,8 +57,11 @@ pub extern "C" fn zithejo_decode(
     report: &mut [u16],
     count: &mut u32,
 ) -> u8
-    ensures { λ r. ⌜ DecodeCalled n (now (map .entry)) (now (coefs .entry)) qc qm (now (frame .entry)) (now (work .entry)) (now (symbols .entry))
-        (now (report .entry)) (now (count .entry)) (now (work .exit)) (now (symbols .exit)) (now (report .exit)) (now (count .exit)) r ⌝ }
+    ensures { λ r. ⌜ DecodeCalled (codeOf n (now (map .entry)) (now (coefs .entry))) (settingsOf qc qm)
+        (now (frame .entry))
+        (lentOf (now (work .entry)) (now (symbols .entry)) (now (report .entry)))
+        (lentOf (now (work .exit)) (now (symbols .exit)) (now (report .exit)))
+        (now (count .entry)) (now (count .exit)) r ⌝ }
 {
     let answer = decoder::decode(n, map, coefs, qc, qm, frame, work, symbols, report);
     match answer {

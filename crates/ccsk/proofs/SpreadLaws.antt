@@ -1,4 +1,4 @@
--- What it means that `spread` takes its input.
+-- What it means that `spread` accepts its input.
 use mathlib.Core.Path.{_≡_}
 use mathlib.Core.List.{List}
 use Prim.Native.Nat.{ℕ}
@@ -6,7 +6,7 @@ use borrow.Author.Tests.{ne-eqb, eqb-false}
 use lib.Dec.{lit<}
 use lib.ListN.{length}
 use Rattle.refusal.specs.Table.{Numbered}
-use Rattle.refusal.proofs.Laws.{taken-none, none-taken}
+use Rattle.refusal.proofs.Laws.{accepted-none, none-accepted}
 use Rattle.refusal.proofs.Within.{inside-within, within-inside, none-within, within-none, false-equal, equal-false}
 use Rattle.ccsk.specs.Chips.{turned}
 use Rattle.ccsk.specs.Spread.{spreadTable, spreadRefusal, Spreadable}
@@ -16,11 +16,11 @@ module _ (base : ℕ) (symbols buffer : List ℕ) where
   numbered : Numbered (spreadTable base symbols buffer)
   numbered = (lit< tt, (lit< tt, (lit< tt, (lit< tt, tt))))
 
-  -- taken exactly when no row fits
-  pub taken : spreadRefusal base symbols buffer ≡ 0 → Spreadable base symbols buffer
+  -- accepted exactly when no row fits
+  pub accepted : spreadRefusal base symbols buffer ≡ 0 → Spreadable base symbols buffer
   unfolding spreadRefusal
-  taken e =
-      let f = taken-none (spreadTable base symbols buffer) numbered e in
+  accepted e =
+      let f = accepted-none (spreadTable base symbols buffer) numbered e in
       record {
         count = inside-within 1 256 (length symbols) (f .0);
         buffer-long = false-equal (length buffer) (length symbols) (f .1 .0);
@@ -29,10 +29,10 @@ module _ (base : ℕ) (symbols buffer : List ℕ) where
       }
 
   -- and the other way round
-  pub takes : Spreadable base symbols buffer → spreadRefusal base symbols buffer ≡ 0
+  pub accepts : Spreadable base symbols buffer → spreadRefusal base symbols buffer ≡ 0
   unfolding spreadRefusal
-  takes t =
-      none-taken (spreadTable base symbols buffer) (
+  accepts t =
+      none-accepted (spreadTable base symbols buffer) (
         within-inside 1 256 (length symbols) (t .count),
         (
           equal-false (length buffer) (length symbols) (t .buffer-long),

@@ -1,4 +1,5 @@
--- CCSK chips (document 01, 'Chips and penalties'): the base sequence is a 64-bit number, and a symbol is sent as that number turned.
+-- CCSK chips (document 01, 'Chips and penalties'): the base sequence is a 64-bit number, and a symbol is sent as that
+-- number turned.
 use Prim.Native.Nat.{ℕ, _+_, _*_, _/_, _%_, _^_, _<_}
 use mathlib.Core.Path.{_≡_}
 use mathlib.Core.Bool.{cond}

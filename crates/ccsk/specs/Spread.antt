@@ -26,7 +26,7 @@ pub record Spreadable (base : ℕ) (symbols buffer : List ℕ) : Type 0 where
   pub symbols-small : (i : ℕ) → i < length symbols → Within 0 63 (getD symbols i 0)
   pub base-turns : turned base 32 ≡ base → ⊥
 
--- the number that `spread` returns, 0 where it takes its input
+-- the number that `spread` returns, 0 where it accepts its input
 unfoldable pub spreadRefusal : ℕ → List ℕ → List ℕ → ℕ
 spreadRefusal base symbols buffer = refusalOf (spreadTable base symbols buffer)
 

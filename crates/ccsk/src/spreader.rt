@@ -4,26 +4,14 @@ ghost use mathlib.Core.Path.{_≡_};
 ghost use lib.ListN.{length};
 ghost use Rattle.ccsk.specs.Spread.{numbersOf, spreadRefusal, Spread};
 
-// The number by which `spread` refuses, 0 where it takes its input: the first test that fits, in document 01's order.
+// The number by which `spread` refuses, 0 where it accepts its input: the first test that fits, in document 01's order.
 fn spread_refusal(base: u64, symbols: &[u8], numbers: &[u64]) -> u8
     ensures { λ r. ⌜ r ≡ spreadRefusal base (now (symbols .entry)) (now (numbers .entry)) ⌝ }
 {
-    if symbols.len() < 1 {
-        return 2;
-    }
-    if 256 < symbols.len() {
-        return 2;
-    }
-    if numbers.len() != symbols.len() {
-        return 2;
-    }
-    if refusal::any_outside(symbols, 0, 63) {
-        return 7;
-    }
-    if turned(base, 32) == base {
-        return 10;
-    }
-    0
+    let r = refusal::first(0, 2, refusal::is_size_outside(symbols.len(), 1, 256));
+    let r = refusal::first(r, 2, numbers.len() != symbols.len());
+    let r = refusal::first(r, 7, refusal::any_outside(symbols, 0, 63));
+    refusal::first(r, 10, turned(base, 32) == base)
 }
 
 // Writes the number that each symbol is sent as.
@@ -39,8 +27,9 @@ fn write_numbers(base: u64, symbols: &[u8], numbers: &mut [u64])
     }
 }
 
-// Spreads symbols to chips: each is sent as the base turned by its value, one 64-bit number a symbol, whose chip k is bit k.
-// Returns 0 and the numbers in the buffer lent for them; or the lowest refusal of 2, 7 and 10 that fits, and the buffer as it came.
+// Spreads symbols to chips: each is sent as the base turned by its value, one 64-bit number a symbol, whose chip k is
+// bit k. Returns 0 and the numbers in the buffer lent for them; or the lowest refusal of 2, 7 and 10 that fits, and the
+// buffer as it came.
 pub fn spread(base: u64, symbols: &[u8], numbers: &mut [u64]) -> u8
     ensures { λ r. ⌜ Spread base (now (symbols .entry)) (now (numbers .entry)) (now (numbers .exit)) r ⌝ }
 {

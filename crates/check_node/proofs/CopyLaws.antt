@@ -8,7 +8,7 @@ use lib.ListN.{length, getD}
 use Rattle.vector.specs.Vector.{vectorAt, stored}
 use Rattle.vector.proofs.SliceLaws.{vector-entry, stored-long, stored-is, stored-other}
 use Rattle.gf64.specs.Field.{_⊕_}
-use Rattle.reorder.specs.Parts.{swapped}
+use Rattle.reorder.specs.Order.{swapped}
 use Rattle.reorder.proofs.SwapLaws.{swapped-at, swapped-long}
 use Rattle.check_node.specs.Steps.{AreCopies}
 

@@ -11,10 +11,9 @@ use Rattle.vector.specs.Vector.{tabulate, leastTo}
 use Rattle.vector.proofs.Laws.{tabulate-ext, least-to-le, least-to-at}
 use Rattle.gf64.specs.Field.{_⊕_}
 use Rattle.gf64.proofs.SumLaws.{sum-lt, sum-zero}
-use Rattle.gf64.proofs.Table.{and-left, and-right, all, all-at}
-use Rattle.scms.specs.Nodes.{sumAt}
-use Rattle.reorder.specs.Parts.{Small}
-use Rattle.check_node.specs.Parts.{checkFrom}
+use Rattle.vector.proofs.All.{and-left, and-right, all, all-at}
+use Rattle.scms.specs.Nodes.{sumAt, checkFrom}
+use Rattle.reorder.specs.Order.{Small}
 use Rattle.check_node.specs.Steps.{byColumns, sourceOf, firstOf, step, fourSteps, stepsAt, columnTo, differences, leastSum, AreCopies}
 use Rattle.check_node.proofs.CopyLaws.{copies-at}
 use Rattle.check_node.proofs.DifferenceLaws.{columns-lt, columns-twice, difference-at}
@@ -60,17 +59,17 @@ source-at q j b hq hj hb =
     }
 
 -- a least sum is at most 16,382
-least-most : (theta x : List ℕ) (b p : ℕ) → Small theta → Small x → b < 64 → leastSum theta x b p ≤ 16382
+least-most : (theta ordered : List ℕ) (b p : ℕ) → Small theta → Small ordered → b < 64 → leastSum theta ordered b p ≤ 16382
 unfolding byColumns
-least-most theta x b p st sx l =
-    let m = least-to-le p (λ k. sumAt theta x b (byColumns k)) 0 (omega arith) in
+least-most theta ordered b p st sx l =
+    let m = least-to-le p (λ k. sumAt theta ordered b (byColumns k)) 0 (omega arith) in
     let t = st .most (b ⊕ byColumns 0) (sum-lt b 0 l (omega arith)) in
     let s = sx .most 0 (omega arith) in
     omega arith
 
 -- what is held for value b after k steps: the least sum so far less the penalty of the last step, in 16 bits; before the first step, as after it
-pub record Holds (theta x : List ℕ) (b k held : ℕ) : Type 0 where
-  pub least : (held + getD x (byColumns (k - 1)) 0) % 65536 ≡ leastSum theta x b (k - 1)
+pub record Holds (theta ordered : List ℕ) (b k held : ℕ) : Type 0 where
+  pub least : (held + getD ordered (byColumns (k - 1)) 0) % 65536 ≡ leastSum theta ordered b (k - 1)
 
 -- the value of a step, from that of the first of its four
 value-of : (q j : ℕ) → j < 4 → byColumns (4 * q + j) ≡ firstOf q + 8 * j
@@ -80,21 +79,21 @@ value-of q j l =
     omega arith
 
 -- the same number of steps
-pub at-step : {theta x : List ℕ} {b k n held : ℕ} → k ≡ n → Holds theta x b k held → Holds theta x b n held
-at-step {theta} {x} {b} {k} {n} {held} e = subst (λ (m : ℕ). Holds theta x b m held) e
+pub at-step : {theta ordered : List ℕ} {b k n held : ℕ} → k ≡ n → Holds theta ordered b k held → Holds theta ordered b n held
+at-step {theta} {ordered} {b} {k} {n} {held} e = subst (λ (m : ℕ). Holds theta ordered b m held) e
 
-module _ {x w d : List ℕ} (theta : List ℕ) (b : ℕ) (h : AreCopies 8 theta w) (e : d ≡ differences x) (st : Small theta) (sx : Small x) (lb : b < 64) where
+module _ {ordered w d : List ℕ} (theta : List ℕ) (b : ℕ) (h : AreCopies 8 theta w) (e : d ≡ differences ordered) (st : Small theta) (sx : Small ordered) (lb : b < 64) where
   -- one step more: i is the step's value, v what it is compared with
-  step-holds : (k i v held : ℕ) → k < 64 → i ≡ byColumns k → v ≡ getD theta (b ⊕ byColumns k) 0 → Holds theta x b k held → Holds theta x b (k + 1) (step held (getD d i 0) v)
+  step-holds : (k i v held : ℕ) → k < 64 → i ≡ byColumns k → v ≡ getD theta (b ⊕ byColumns k) 0 → Holds theta ordered b k held → Holds theta ordered b (k + 1) (step held (getD d i 0) v)
   step-holds k i v held l n f a =
       let c = byColumns k in
       let lc = columns-lt k l in
       let t = ap₂ (λ (xs : List ℕ) (j : ℕ). getD xs j 0) e n in
       let same : k + 1 - 1 ≡ k = omega arith in
       let z : v ≤ 8191 = (let m = st .most (b ⊕ c) (sum-lt b c lb lc) in omega arith) in
-      let made = step-least held (getD x (byColumns (k - 1)) 0) (getD d i 0) (getD x c 0) v k (λ j. sumAt theta x b (byColumns j)) (a .least)
-      (ap (λ (m : ℕ). (m + getD x c 0) % 65536) t ∙ difference-at x sx k l) (least-most theta x b (k - 1) st sx lb) (sx .most c lc) z (ap (λ (m : ℕ). m + getD x c 0) (sym f)) in
-      record { least = ap (λ (m : ℕ). (step held (getD d i 0) v + getD x (byColumns m) 0) % 65536) same ∙ made ∙ ap (leastSum theta x b) (sym same) }
+      let made = step-least held (getD ordered (byColumns (k - 1)) 0) (getD d i 0) (getD ordered c 0) v k (λ j. sumAt theta ordered b (byColumns j)) (a .least)
+      (ap (λ (m : ℕ). (m + getD ordered c 0) % 65536) t ∙ difference-at ordered sx k l) (least-most theta ordered b (k - 1) st sx lb) (sx .most c lc) z (ap (λ (m : ℕ). m + getD ordered c 0) (sym f)) in
+      record { least = ap (λ (m : ℕ). (step held (getD d i 0) v + getD ordered (byColumns m) 0) % 65536) same ∙ made ∙ ap (leastSum theta ordered b) (sym same) }
 
   -- what value b is compared with at step 4 q + j
   compared : (q j : ℕ) → q < 16 → j < 4 → getD w (source q j b) 0 ≡ getD theta (b ⊕ byColumns (4 * q + j)) 0
@@ -103,7 +102,7 @@ module _ {x w d : List ℕ} (theta : List ℕ) (b : ℕ) (h : AreCopies 8 theta 
       copies-at h (source q j b) (s .within) ∙ ap (λ (k : ℕ). getD theta k 0) (s .entry)
 
   -- four steps more
-  four-hold : (q held : ℕ) → q < 16 → Holds theta x b (4 * q) held → Holds theta x b (4 * q + 4) (stepsAt w d q b held)
+  four-hold : (q held : ℕ) → q < 16 → Holds theta ordered b (4 * q) held → Holds theta ordered b (4 * q + 4) (stepsAt w d q b held)
   unfolding stepsAt fourSteps
   four-hold q held l a0 =
       let value : (j i : ℕ) → j < 4 → i ≡ firstOf q + 8 * j → i ≡ byColumns (4 * q + j) = λ j i m n. n ∙ sym (value-of q j m) in
@@ -113,29 +112,29 @@ module _ {x w d : List ℕ} (theta : List ℕ) (b : ℕ) (h : AreCopies 8 theta 
       at-step (omega arith) (step-holds (4 * q + 3) (firstOf q + 24) _ _ (omega arith) (value 3 _ (omega arith) refl) (compared q 3 l (omega arith)) (at-step (omega arith) a3))
 
   -- the steps of a column, the first 4 j of them
-  pub column-holds : (column held : ℕ) → column < 8 → Holds theta x b (8 * column) held → (j : ℕ) → j ≤ 2 → Holds theta x b (8 * column + 4 * j) (columnTo w d column j b held)
+  pub column-holds : (column held : ℕ) → column < 8 → Holds theta ordered b (8 * column) held → (j : ℕ) → j ≤ 2 → Holds theta ordered b (8 * column + 4 * j) (columnTo w d column j b held)
   unfolding columnTo
   column-holds column held l a zero m = at-step (omega arith) a
   column-holds column held l a (suc j) m =
       at-step (omega arith) (four-hold (2 * column + j) (columnTo w d column j b held) (omega arith) (at-step (omega arith) (column-holds column held l a j (omega arith))))
 
 -- before the first step
-pub none-hold : (theta x : List ℕ) (b : ℕ) → Small theta → Small x → b < 64 → Holds theta x b 0 (getD theta b 0)
+pub none-hold : (theta ordered : List ℕ) (b : ℕ) → Small theta → Small ordered → b < 64 → Holds theta ordered b 0 (getD theta b 0)
 unfolding byColumns leastTo
-none-hold theta x b st sx l =
+none-hold theta ordered b st sx l =
     let s = ap (λ (k : ℕ). getD theta k 0) (sum-zero b) in
     let t = st .most b l in
     let u = sx .most 0 (omega arith) in
     record { least = omega arith }
 
 -- after the last step what is held, plus the last penalty, is the least sum
-pub all-hold : {theta x : List ℕ} {b k held : ℕ} → Holds theta x b k held → k ≡ 64 → (held + getD x 63 0) % 65536 ≡ leastSum theta x b 63
+pub all-hold : {theta ordered : List ℕ} {b k held : ℕ} → Holds theta ordered b k held → k ≡ 64 → (held + getD ordered 63 0) % 65536 ≡ leastSum theta ordered b 63
 unfolding byColumns
-all-hold {theta} {x} {b} {k} {held} h e = at-step e h .least
+all-hold {theta} {ordered} {b} {k} {held} h e = at-step e h .least
 
 -- the least is the same in the order of columns
-turned : (f : ℕ → ℕ) → leastTo 63 (λ k. f (byColumns k)) ≡ leastTo 63 f
-turned f =
+by-columns : (f : ℕ → ℕ) → leastTo 63 (λ k. f (byColumns k)) ≡ leastTo 63 f
+by-columns f =
     let p = least-to-at 63 f in
     let q = least-to-at 63 (λ k. f (byColumns k)) in
     let lp : p .0 < 64 = (let l = p .1 in omega arith) in
@@ -148,6 +147,6 @@ turned f =
     omega arith
 
 -- the least sums over all steps are the entries of the check node
-pub sums-are-node : (theta x : List ℕ) → tabulate 64 (λ b. leastSum theta x b 63) ≡ checkFrom theta x
+pub sums-are-node : (theta ordered : List ℕ) → tabulate 64 (λ b. leastSum theta ordered b 63) ≡ checkFrom theta ordered
 unfolding checkFrom
-sums-are-node theta x = tabulate-ext 64 _ _ (λ b l. turned (sumAt theta x b))
+sums-are-node theta ordered = tabulate-ext 64 _ _ (λ b l. by-columns (sumAt theta ordered b))

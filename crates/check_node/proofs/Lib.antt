@@ -1,4 +1,3 @@
-pub mod NodeLaws
 pub mod CopyLaws
 pub mod DifferenceLaws
 pub mod StepLaws

@@ -12,7 +12,7 @@ use lib.ListN.{length, getD, set, length-set}
 use lib.Seq.{getD-set-same, getD-set-other}
 use Rattle.vector.specs.Vector.{leastTo}
 use Rattle.gf64.specs.Field.{_⊕_}
-use Rattle.reorder.specs.Parts.{Mapped}
+use Rattle.reorder.specs.Order.{Mapped}
 use Rattle.check_node.specs.Steps.{signedRank, step, fourSteps, sourceOf, firstOf, stepsAt}
 
 -- a choice by a test, in its two cases

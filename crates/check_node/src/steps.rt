@@ -4,19 +4,22 @@ use crate::differences::wide_differences;
 ghost use mathlib.Core.Path.{_≡_};
 ghost use Prim.Native.Nat.{_+_, _*_, _<_};
 ghost use lib.ListN.{length};
-ghost use Rattle.vector.specs.Vector.{AtMost};
-ghost use Rattle.reorder.specs.Parts.{Small, Mapped};
-ghost use Rattle.check_node.specs.Parts.{checkFrom};
-ghost use Rattle.check_node.specs.Steps.{step, fourSteps, stepsAt, columnTo, summed};
+ghost use Rattle.reorder.specs.Order.{Small, Mapped};
+ghost use Rattle.scms.specs.Nodes.{checkFrom};
+ghost use Rattle.check_node.specs.Steps.{Words, step, fourSteps, stepsAt, columnTo, summed};
 
-// One step for one value: what is held moves by the difference d to the next value, which gives w, and the smaller of the two is held. They are
-// compared as signed numbers, by where they stand in the order of those: the compiler then takes eight minima in one instruction.
+// What moves a number of 16 bits to where it stands in the order of signed numbers.
+const SIGN: u16 = 32768;
+
+// One step for one value: what is held moves by the difference d to the next value, which gives w, and the smaller of
+// the two is held. They are compared as signed numbers, by where they stand in the order of those: the compiler then
+// takes eight minima in one instruction.
 fn step(held: u16, d: u16, w: u16) -> u16
     ensures { λ r. ⌜ r ≡ step held d w ⌝ }
 {
     let moved = std::num::wrapping_add_u16(held, d);
-    let rank = std::num::wrapping_add_u16(moved, 32768);
-    let other = std::num::wrapping_add_u16(w, 32768);
+    let rank = std::num::wrapping_add_u16(moved, SIGN);
+    let other = std::num::wrapping_add_u16(w, SIGN);
     if rank < other { moved } else { w }
 }
 
@@ -48,7 +51,8 @@ struct Lane {
     b3: u16,
 }
 
-// Four steps for four values, one of each block. They are compared with the same four numbers, each block with them in another order.
+// Four steps for four values, one of each block. They are compared with the same four numbers, each block with them
+// in another order.
 fn lane_steps(held: Lane, d0: u16, d1: u16, d2: u16, d3: u16, w: Lane) -> Lane
     ensures { λ r. ⌜ (r .b0 ≡ fourSteps d0 d1 d2 d3 (w .b0) (w .b1) (w .b2) (w .b3) (held .b0))
         × (r .b1 ≡ fourSteps d0 d1 d2 d3 (w .b1) (w .b0) (w .b3) (w .b2) (held .b1))
@@ -62,8 +66,9 @@ fn lane_steps(held: Lane, d0: u16, d1: u16, d2: u16, d3: u16, w: Lane) -> Lane
     Lane { b0, b1, b2, b3 }
 }
 
-// Steps 4 q to 4 q + 3 for the 32 values of one half, in four blocks of eight. The four parts of a copy that they are compared with are the same for
-// each block, in another order: so each part is read once, and the compiler works on eight neighbours at a time.
+// Steps 4 q to 4 q + 3 for the 32 values of one half, in four blocks of eight. The four parts of a copy that they are
+// compared with are the same for each block, in another order: so each part is read once, and the compiler works on
+// eight neighbours at a time.
 fn half_steps(
     held: [u16; 64],
     copies: &[u16; 512],
@@ -71,7 +76,7 @@ fn half_steps(
     q: usize,
     half: usize,
 ) -> [u16; 64]
-    requires { ⌜ AtMost 65535 (now d) × (q < 16) × (half < 2) × (length held ≡ 64) ⌝ }
+    requires { ⌜ Words (now d) × (q < 16) × (half < 2) × (length held ≡ 64) ⌝ }
     ensures { λ r. ⌜ Mapped (stepsAt (now (copies .entry)) (now (d .entry)) q) (32 * half) (32 * half + 32) held r ⌝ }
 {
     let first = 32 * (q % 2) + q / 2;
@@ -110,7 +115,7 @@ fn half_steps(
 
 // Steps 4 q to 4 q + 3 for all 64 values.
 fn all_steps(held: [u16; 64], copies: &[u16; 512], d: &[u32; 64], q: usize) -> [u16; 64]
-    requires { ⌜ AtMost 65535 (now d) × (q < 16) × (length held ≡ 64) ⌝ }
+    requires { ⌜ Words (now d) × (q < 16) × (length held ≡ 64) ⌝ }
     ensures { λ r. ⌜ Mapped (stepsAt (now (copies .entry)) (now (d .entry)) q) 0 64 held r ⌝ }
 {
     let mut r = held;
@@ -123,9 +128,10 @@ fn all_steps(held: [u16; 64], copies: &[u16; 512], d: &[u32; 64], q: usize) -> [
     r
 }
 
-// The eight steps of a column for all 64 values. They are one turn of its caller's loop: then all but the column is constant.
+// The eight steps of a column for all 64 values. They are one turn of its caller's loop: then all but the column is
+// constant.
 fn column_steps(held: [u16; 64], copies: &[u16; 512], d: &[u32; 64], column: usize) -> [u16; 64]
-    requires { ⌜ AtMost 65535 (now d) × (column < 8) × (length held ≡ 64) ⌝ }
+    requires { ⌜ Words (now d) × (column < 8) × (length held ≡ 64) ⌝ }
     ensures { λ r. ⌜ Mapped (columnTo (now (copies .entry)) (now (d .entry)) column 2) 0 64 held r ⌝ }
 {
     let mut r = held;
@@ -151,14 +157,14 @@ fn summed(v: &[u16; 64], y: u16) -> [u16; 64]
     r
 }
 
-// For each value b the least, over all 64 values c, of theta's penalty at b plus c (the field's sum), plus x's at c. Eight values are worked on at a
-// time, four steps for all of them before the next four.
-pub(crate) fn least_sums(theta: [u16; 64], x: &[u16; 64]) -> [u16; 64]
-    requires { ⌜ Small theta × Small (now x) ⌝ }
-    ensures { λ r. ⌜ r ≡ checkFrom theta (now (x .entry)) ⌝ }
+// For each value b the least, over all 64 values c, of theta's penalty at b plus c (the field's sum), plus phi's at c
+// in the order of c. Eight values are worked on at a time, four steps for all of them before the next four.
+pub(crate) fn least_sums(theta: [u16; 64], ordered: &[u16; 64]) -> [u16; 64]
+    requires { ⌜ Small theta × Small (now ordered) ⌝ }
+    ensures { λ r. ⌜ r ≡ checkFrom theta (now (ordered .entry)) ⌝ }
 {
     let copied = copies(theta);
-    let d = wide_differences(x);
+    let d = wide_differences(ordered);
     let mut r = theta;
     let mut column: usize = 0;
     while column < 8 {
@@ -166,5 +172,5 @@ pub(crate) fn least_sums(theta: [u16; 64], x: &[u16; 64]) -> [u16; 64]
         r = next;
         column += 1;
     }
-    summed(&r, x[63])
+    summed(&r, ordered[63])
 }

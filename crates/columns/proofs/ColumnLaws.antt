@@ -116,14 +116,14 @@ same-true (x ∷ xs) (y ∷ ys) e = go (eqb x y) refl e (same-true xs ys)
 
 -- ---- reading
 
--- what is taken is what is written for a number of at most w digits, namely the one that is spelled
-pub taken-written : (w : ℕ) (bytes : List ℕ) → isField w bytes ≡ true → (bytes ≡ field w (spelled bytes)) × (spelled bytes < 10 ^ w)
+-- what is accepted is what is written for a number of at most w digits, namely the one that is spelled
+pub accepted-written : (w : ℕ) (bytes : List ℕ) → isField w bytes ≡ true → (bytes ≡ field w (spelled bytes)) × (spelled bytes < 10 ^ w)
 unfolding isField
-taken-written w bytes e =
+accepted-written w bytes e =
     let q = same-true bytes (field w (spelled bytes)) e in
     (q, subst (λ (v : ℕ). v < 10 ^ w) (sym (ap spelled q)) (field-small w (spelled bytes)))
 
--- and what is written for such a number is taken
-pub written-taken : (w v : ℕ) → v < 10 ^ w → isField w (field w v) ≡ true
+-- and what is written for such a number is accepted
+pub written-accepted : (w v : ℕ) → v < 10 ^ w → isField w (field w v) ≡ true
 unfolding isField
-written-taken w v l = ap (λ (k : ℕ). same (field w v) (field w k)) (field-spelled w v l) ∙ same-refl (field w v)
+written-accepted w v l = ap (λ (k : ℕ). same (field w v) (field w k)) (field-spelled w v l) ∙ same-refl (field w v)

@@ -13,7 +13,7 @@ use Rattle.vector.specs.Vector.{tabulate}
 use Rattle.vector.proofs.Laws.{length-tabulate, tabulate-by, tabulate-ext}
 use Rattle.columns.specs.Columns.{field, fields, line}
 use Rattle.columns.specs.Reading.{spelled, same, isField, part, numbers, isLine}
-use Rattle.columns.proofs.ColumnLaws.{length-field, field-spelled, same-refl, same-true, taken-written}
+use Rattle.columns.proofs.ColumnLaws.{length-field, field-spelled, same-refl, same-true, accepted-written}
 
 -- a test that can't hold does not
 pub refuted : (t : Bool) → (t ≡ true → ⊥) → t ≡ false
@@ -76,7 +76,7 @@ module _ (w : ℕ) where
       (drop-drop (w * k) w bytes ∙ ap (λ (j : ℕ). drop j bytes) (sym at) ∙ e))
       ∙ sym (append-assoc (field w (f 0)) rest tail)
 
--- ---- a line that is taken
+-- ---- a line that is accepted
 module _ (w k : ℕ) (bytes : List ℕ) where
   -- the number that field i spells
   abbrev at : ℕ → ℕ
@@ -110,7 +110,7 @@ module _ (w k : ℕ) (bytes : List ℕ) where
 
     -- of at most w digits
     pub line-small : (i : ℕ) → i < k → at i < 10 ^ w
-    line-small i l = taken-written w (part w i bytes) (line-field i l) .1
+    line-small i l = accepted-written w (part w i bytes) (line-field i l) .1
 
     -- and after them is a line feed
     pub line-end : getD bytes (w * k) 0 ≡ 10
@@ -124,7 +124,7 @@ module _ (w k : ℕ) (bytes : List ℕ) where
   unfolding isLine line numbers
   is-line h long end =
       let rest = drop-cons bytes (w * k) 0 (omega arith) ∙ ap₂ (λ (x : ℕ) (xs : List ℕ). x ∷ xs) end (drop-of-length-le bytes {i = suc (w * k)} (omega arith)) in
-      let q = whole w k at bytes (10 ∷ []) (λ i l. taken-written w (part w i bytes) (h i l) .0) rest in
+      let q = whole w k at bytes (10 ∷ []) (λ i l. accepted-written w (part w i bytes) (h i l) .0) rest in
       ap (λ (xs : List ℕ). same xs (written ++ 10 ∷ [])) q ∙ same-refl (written ++ 10 ∷ [])
 
   -- so, where each part is a number and the length is right, the last byte decides
@@ -150,7 +150,7 @@ module _ (w : ℕ) (vs : List ℕ) (small : (i : ℕ) → i < length vs → getD
       ∙ ap spelled (parts-of w (length vs) (λ j. getD vs j 0) (10 ∷ []) i l) ∙ field-spelled w (getD vs i 0) (small i l))
       ∙ sym listed
 
-  -- and it is taken
-  pub line-taken : isLine w (length vs) (line w vs) ≡ true
+  -- and it is accepted
+  pub line-accepted : isLine w (length vs) (line w vs) ≡ true
   unfolding isLine
-  line-taken = ap (λ (xs : List ℕ). same (line w vs) (line w xs)) numbers-written ∙ same-refl (line w vs)
+  line-accepted = ap (λ (xs : List ℕ). same (line w vs) (line w xs)) numbers-written ∙ same-refl (line w vs)

@@ -1,4 +1,5 @@
--- Reading numbers in columns. It undoes writing: columns are taken exactly when they are what is written for the number that they spell.
+-- Reading numbers in columns. It undoes writing: columns are accepted exactly when they are what is written for the
+-- number that they spell.
 use Prim.Native.Nat.{ℕ, _+_, _-_, _*_}
 use mathlib.Core.Bool.{Bool, true, false, _&&_}
 use mathlib.Core.List.{List, [], _∷_}
@@ -7,8 +8,8 @@ use lib.ListN.{take, drop}
 use Rattle.vector.specs.Vector.{tabulate}
 use Rattle.columns.specs.Columns.{field, line}
 
--- the number that columns spell after what is already read, v: each column counts its digit, and ten times what stands before it. A blank counts
--- as the digit 0; any byte gets some value here
+-- the number that columns spell after what is already read, v: each column counts its digit, and ten times what stands
+-- before it. A blank counts as the digit 0; any byte gets some value here
 unfoldable pub spelledFrom : ℕ → List ℕ → ℕ
 spelledFrom v [] = v
 spelledFrom v (byte ∷ bytes) = spelledFrom (v * 10 + (byte - 48)) bytes

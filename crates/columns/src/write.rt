@@ -17,8 +17,8 @@ fn column(left: u32) -> u8
     if left == 0 { 32 } else { digit(left) }
 }
 
-// Writes a number over the whole of a slice of any length, right-justified, with blanks before it. Of a number of more digits than
-// there are columns the last ones are written.
+// Writes a number over the whole of a slice of any length, right-justified, with blanks before it. Of a number of more
+// digits than there are columns the last ones are written.
 pub fn write_number(v: u32, out: &mut [u8])
     ensures { λ _. ⌜ now (out .exit) ≡ field (length (now (out .entry))) v ⌝ }
 {

@@ -1,4 +1,6 @@
 // The decision at one place, from the 64 penalties held for it.
+use polar_code::Kind;
+use polar_code::kind_of;
 ghost use mathlib.Core.Path.{_≡_};
 ghost use Rattle.polar_code.specs.Code.{kindOf};
 ghost use Rattle.scms.specs.Decision.{smallest, decision};
@@ -18,10 +20,14 @@ fn smallest(v: &[u16; 64]) -> u8
     63
 }
 
-// The symbol of a place with this map byte: byte 0 is a message place, which takes the smallest value whose penalty is least; any other
-// byte is a frozen place, which holds 0.
+// The symbol of a place with this map byte: a message place takes the smallest value whose penalty is least, a frozen
+// place the symbol that it always holds.
 pub fn decide(byte: u8, v: [u16; 64]) -> u8
     ensures { λ r. ⌜ r ≡ decision (kindOf byte) v ⌝ }
 {
-    if byte == 0 { smallest(&v) } else { 0 }
+    let kind = kind_of(byte);
+    match kind {
+        Kind::Message => smallest(&v),
+        Kind::Frozen(s) => s,
+    }
 }

@@ -16,6 +16,7 @@ use Rattle.scms.specs.Halves.{Vectors, frameTree, checkNodes, variableNodes, cl
 use Rattle.scms.proofs.TreeSums.{tree-sum}
 use Rattle.scms.proofs.TreeLists.{frame-at}
 use Rattle.scms.proofs.ByHalves.{same-three}
+use Rattle.decoder.specs.declared.vectors.BlockAt.{BlockAt}
 use Rattle.decoder.specs.Parts.{AreCheckNodes, AreVariableNodes, clippedTo, vectorsFrom, blockAnswer, BlockDecoded}
 use Rattle.polar.proofs.BlockLaws.{coef-at, joined-leaves}
 use Rattle.vector.proofs.SliceLaws.{vector-first, vector-second, vector-drop}
@@ -38,10 +39,14 @@ same-four : {A B C D E : Type 0} {a a′ : A} {b b′ : B} {c c′ : C} {d d′ 
 same-four f p q r s = λ i. f (p i) (q i) (r i) (s i)
 
 -- the kernels that join the halves of a block of 2^(p + 1) places
-module _ (p start o : ℕ) (cs source : List ℕ) where
+module _ (p : ℕ) (block : BlockAt) (cs source : List ℕ) where
+  -- the number of its first vector
+  abbrev o : ℕ
+  o = block .at
+
   -- their coefficients
   abbrev H : Tree ℕ p
-  H = treeOf 1 p (take (2 ^ p) (drop start cs))
+  H = treeOf 1 p (take (2 ^ p) (drop (block .start) cs))
 
   -- the block's vectors
   abbrev F : Vectors (suc p)
@@ -58,29 +63,29 @@ module _ (p start o : ℕ) (cs source : List ℕ) where
   second-at q = sym (vectors-at (suc p) o source (second q))
 
   -- the check nodes
-  checks-tree : (ys : List ℕ) → AreCheckNodes (2 ^ p) o (2 ^ p) start cs source ys → vectorsFrom p (o + (2 ^ p + 2 ^ p)) ys ≡ checkNodes p H (F .0) (F .1)
+  checks-tree : (ys : List ℕ) → AreCheckNodes block (2 ^ p) cs source (2 ^ p) ys → vectorsFrom p (o + (2 ^ p + 2 ^ p)) ys ≡ checkNodes p H (F .0) (F .1)
   unfolding checkNodes
   checks-tree ys h = vectors-by p (o + (2 ^ p + 2 ^ p)) ys (map3 p checkNode H (F .0) (F .1)) (λ q.
-      h (number q) (number-lt q) ∙ same-three checkNode (coef-at p start cs q) (first-at q) (second-at q) ∙ sym (map3-at checkNode q H (F .0) (F .1)))
+      h (number q) (number-lt q) ∙ same-three checkNode (coef-at p (block .start) cs q) (first-at q) (second-at q) ∙ sym (map3-at checkNode q H (F .0) (F .1)))
 
   -- the symbols of the first half, as a list and as a tree
-  module _ (cap : ℕ) (w : List ℕ) (W : Tree ℕ p) (hw : (q : Place p) → getD w (number q) 0 ≡ at W q) where
+  module _ (w : List ℕ) (W : Tree ℕ p) (hw : (q : Place p) → getD w (number q) 0 ≡ at W q) where
     -- the variable nodes
-    variables-tree : (zs : List ℕ) → AreVariableNodes (2 ^ p) o (2 ^ p) start cap cs w source zs
-        → vectorsFrom p (o + (2 ^ p + 2 ^ p)) zs ≡ variableNodes p cap H (F .0) (F .1) W
+    variables-tree : (zs : List ℕ) → AreVariableNodes block (2 ^ p) cs source w (2 ^ p) zs
+        → vectorsFrom p (o + (2 ^ p + 2 ^ p)) zs ≡ variableNodes p (block .cap) H (F .0) (F .1) W
     unfolding variableNodes
-    variables-tree zs h = vectors-by p (o + (2 ^ p + 2 ^ p)) zs (map4 p (λ k v w s. variableNode cap k s v w) H (F .0) (F .1) W) (λ q.
-        h (number q) (number-lt q) ∙ same-four (λ k v w s. variableNode cap k s v w) (coef-at p start cs q) (first-at q) (second-at q) (hw q)
-        ∙ sym (map4-at (λ k v w s. variableNode cap k s v w) q H (F .0) (F .1) W))
+    variables-tree zs h = vectors-by p (o + (2 ^ p + 2 ^ p)) zs (map4 p (λ k v w s. variableNode (block .cap) k s v w) H (F .0) (F .1) W) (λ q.
+        h (number q) (number-lt q) ∙ same-four (λ k v w s. variableNode (block .cap) k s v w) (coef-at p (block .start) cs q) (first-at q) (second-at q) (hw q)
+        ∙ sym (map4-at (λ k v w s. variableNode (block .cap) k s v w) q H (F .0) (F .1) W))
 
     -- and their count of clipped entries
-    clipped-tree : clippedTo (2 ^ p) o (2 ^ p) start cap cs w source ≡ clippedNodes p cap H (F .0) (F .1) W
+    clipped-tree : clippedTo block (2 ^ p) cs source w (2 ^ p) ≡ clippedNodes p (block .cap) H (F .0) (F .1) W
     unfolding clippedNodes
     clipped-tree =
-        sym (tree-sum p (map4 p (λ k v w s. clippedEntries cap k s v w) H (F .0) (F .1) W)
-        (λ t. clippedEntries cap (getD cs (start + t) 1) (getD w t 0) (vectorAt source (o + t)) (vectorAt source (o + (2 ^ p + t)))) (λ q.
-        map4-at (λ k v w s. clippedEntries cap k s v w) q H (F .0) (F .1) W
-        ∙ sym (same-four (λ k v w s. clippedEntries cap k s v w) (coef-at p start cs q) (first-at q) (second-at q) (hw q))))
+        sym (tree-sum p (map4 p (λ k v w s. clippedEntries (block .cap) k s v w) H (F .0) (F .1) W)
+        (λ t. clippedEntries (block .cap) (getD cs (block .start + t) 1) (getD w t 0) (vectorAt source (o + t)) (vectorAt source (o + (2 ^ p + t)))) (λ q.
+        map4-at (λ k v w s. clippedEntries (block .cap) k s v w) q H (F .0) (F .1) W
+        ∙ sym (same-four (λ k v w s. clippedEntries (block .cap) k s v w) (coef-at p (block .start) cs q) (first-at q) (second-at q) (hw q))))
 
 -- a report of two halves, one after the other
 module _ (p : ℕ) (a b : List ℕ) (la : length a ≡ 64 * 2 ^ p) where
@@ -103,38 +108,54 @@ few-more p left clipped right a b c =
     let f : p * (2 ^ p + 2 ^ p) ≡ p * 2 ^ p + p * 2 ^ p = mul-add p (2 ^ p) (2 ^ p) in
     omega arith
 
--- the step of a block, whose vectors are those of `source` from number o on
-module _ (start stride cap o : ℕ) (cs map source : List ℕ) where
+-- a half of a block: one layer less, its coefficients from s on, its vectors from number `at` on
+abbrev pub halfAt : BlockAt → (layers s at : ℕ) → BlockAt
+halfAt block layers s at = record { layers = layers; start = s; at = at; places = block .places; cap = block .cap }
+
+-- a block with this many layers
+abbrev pub withLayers : BlockAt → ℕ → BlockAt
+withLayers block layers = record { layers = layers; start = block .start; at = block .at; places = block .places; cap = block .cap }
+
+-- the step of a block, whose vectors are those of `source` from its number on
+module _ (block : BlockAt) (cs map source : List ℕ) where
+  -- where the coefficients of the next layer begin
+  abbrev pub firstStart : ℕ
+  firstStart = block .start + block .places / 2
+
   -- what a block with L layers leaves, from what its halves left, which have q layers and h places each
   abbrev pub Step : ℕ → ℕ → ℕ → Type 0
   Step L q h =
       (ys zs w wA wB after sA sB rA rB : List ℕ) (left clipped right : ℕ)
-      → AreCheckNodes h o h start cs source ys
-      → BlockDecoded q (start + stride) stride cap cs (take h map) (vectorsFrom q (o + (h + h)) ys) wA sA rA left
+      → let next = block .at + (h + h) in
+      AreCheckNodes block h cs source h ys
+      → BlockDecoded (halfAt block q firstStart next) cs (take h map) (vectorsFrom q next ys) wA sA rA left
       → ((t : ℕ) → t < h → getD w t 0 ≡ getD wA t 0)
-      → AreVariableNodes h o h start cap cs w source zs → clipped ≡ clippedTo h o h start cap cs w source → clipped ≤ 64 * h
-      → BlockDecoded q (start + stride + h / 2) stride cap cs (drop h map) (vectorsFrom q (o + (h + h)) zs) wB sB rB right
-      → length rA ≡ 64 * h → length after ≡ 2 ^ L → Joined h start cs (wA ++ wB) after
-      → BlockDecoded L start stride cap cs map (vectorsFrom L o source) after (sA ++ sB) (rA ++ rB) (left + clipped + right)
+      → AreVariableNodes block h cs source w h zs → clipped ≡ clippedTo block h cs source w h → clipped ≤ 64 * h
+      → BlockDecoded (halfAt block q (firstStart + h / 2) next) cs (drop h map) (vectorsFrom q next zs) wB sB rB right
+      → length rA ≡ 64 * h → length after ≡ 2 ^ L → Joined h (block .start) cs (wA ++ wB) after
+      → BlockDecoded (withLayers block L) cs map (vectorsFrom L (block .at) source) after (sA ++ sB) (rA ++ rB) (left + clipped + right)
 
   -- for L = p + 1 layers
   pub step : (p : ℕ) → Step (suc p) p (2 ^ p)
   unfolding decodeTree coefsAt treeOf leaves
   step p ys zs w wA wB after sA sB rA rB left clipped right checked dA hw variables ec fc dB lr la j =
-      let hs = H p start o cs source in
-      let f = F p start o cs source in
-      let A = blockAnswer p (start + stride) stride cap cs (take (2 ^ p) map) (checkNodes p hs (f .0) (f .1)) in
-      let eA = subst (λ (g : Vectors p). BlockDecoded p (start + stride) stride cap cs (take (2 ^ p) map) g wA sA rA left) (checks-tree p start o cs source ys checked) dA in
+      let next = block .at + (2 ^ p + 2 ^ p) in
+      let first = halfAt block p firstStart next in
+      let second = halfAt block p (firstStart + 2 ^ p / 2) next in
+      let hs = H p block cs source in
+      let f = F p block cs source in
+      let A = blockAnswer first cs (take (2 ^ p) map) (checkNodes p hs (f .0) (f .1)) in
+      let eA = subst (λ (g : Vectors p). BlockDecoded first cs (take (2 ^ p) map) g wA sA rA left) (checks-tree p block cs source ys checked) dA in
       let W = A .word in
       let hW : (q : Place p) → getD w (number q) 0 ≡ at W q
       = λ q. hw (number q) (number-lt q) ∙ ap (λ (x : List ℕ). getD x (number q) 0) (eA .word-is) ∙ leaves-at 0 q W in
-      let B = blockAnswer p (start + stride + 2 ^ p / 2) stride cap cs (drop (2 ^ p) map) (variableNodes p cap hs (f .0) (f .1) W) in
-      let eB = subst (λ (g : Vectors p). BlockDecoded p (start + stride + 2 ^ p / 2) stride cap cs (drop (2 ^ p) map) g wB sB rB right)
-      (variables-tree p start o cs source cap w W hW zs variables) dB in
+      let B = blockAnswer second cs (drop (2 ^ p) map) (variableNodes p (block .cap) hs (f .0) (f .1) W) in
+      let eB = subst (λ (g : Vectors p). BlockDecoded second cs (drop (2 ^ p) map) g wB sB rB right)
+      (variables-tree p block cs source w W hW zs variables) dB in
       record {
-        word-is = joined-leaves p start cs wA wB after W (B .word) (eA .word-is) (eB .word-is) la j;
+        word-is = joined-leaves p (block .start) cs wA wB after W (B .word) (eA .word-is) (eB .word-is) la j;
         symbols-are = ap₂ (λ (x y : List ℕ). x ++ y) (eA .symbols-are) (eB .symbols-are);
         report-is = λ i. ((report-first p rA rB lr ∙ eA .report-is) i, (report-second p rA rB lr ∙ eB .report-is) i);
-        count-is = same-three (λ (x y z : ℕ). x + y + z) (eA .count-is) (ec ∙ clipped-tree p start o cs source cap w W hW) (eB .count-is);
+        count-is = same-three (λ (x y z : ℕ). x + y + z) (eA .count-is) (ec ∙ clipped-tree p block cs source w W hW) (eB .count-is);
         few = few-more p left clipped right (dA .few) fc (dB .few);
       }

@@ -1,15 +1,20 @@
 -- How the loops over the nodes of one layer go on: one more vector is stored after the block's own.
 use mathlib.Core.Path.{_≡_, refl, sym, ap, _∙_, subst}
 use mathlib.Core.List.{List, _++_}
-use Prim.Native.Nat.{ℕ, _+_, _-_, _*_, _/_, _≤_, _<_}
+use Prim.Native.Nat.{ℕ, _+_, _-_, _*_, _≤_, _<_}
 use native.Mathlib.Decide.{decLt}
 use native.Mathlib.Omega.{arith}
 use lib.ListN.{length, getD, length-append}
 use Rattle.vector.specs.Vector.{vectorAt, withVector, stored}
 use Rattle.vector.proofs.SliceLaws.{vector-long, with-long, with-there, with-other, with-append, entries-of, stored-there, stored-long, stored-is, stored-other}
-use Rattle.reorder.specs.Parts.{Small, lowBits}
+use Rattle.reorder.specs.Order.{Small, lowBits}
 use Rattle.reorder.proofs.LowLaws.{low-same}
 use Rattle.decoder.specs.Parts.{Kept, LayerGiven, OrderedGiven}
+use Rattle.decoder.specs.declared.vectors.BlockAt.{BlockAt}
+
+-- a block from what the loops go by: where its kernels' coefficients begin, and the number of its first vector
+abbrev pub blockFrom : (start at : ℕ) → BlockAt
+blockFrom start at = record { layers = 0; start = start; at = at; places = 0; cap = 0 }
 
 -- the vectors g 0, g 1, .., g (t − 1) stand after the block's, and what was before them is as it was
 pub record StoredNodes (at half : ℕ) (frame work : List ℕ) (g : ℕ → List ℕ) (after : List ℕ) (t : ℕ) : Type 0 where
@@ -22,7 +27,15 @@ pub record StoredNodes (at half : ℕ) (frame work : List ℕ) (g : ℕ → List
 pub layer-none : {at half : ℕ} {frame work : List ℕ} {g : ℕ → List ℕ} → StoredNodes at half frame work g work 0
 layer-none = record { few = omega arith; long = refl; kept = λ i l. refl; nodes = λ s l. absurd (omega arith) }
 
-module _ {at half : ℕ} {frame work : List ℕ} (given : LayerGiven at half frame work) where
+module _ {block : BlockAt} {half : ℕ} {frame work : List ℕ} (given : LayerGiven block half frame work) where
+  -- the number of the block's first vector
+  abbrev at : ℕ
+  at = block .at
+
+  -- how many vectors the frame has
+  abbrev places : ℕ
+  places = block .places
+
   -- a vector of the block is one that a node can be given
   pub source-small : (i : ℕ) → i < half + half → Small (vectorAt (frame ++ work) (at + i))
   source-small i l = record {
@@ -42,7 +55,7 @@ module _ {at half : ℕ} {frame work : List ℕ} (given : LayerGiven at half fra
     module _ (l : t < half) (v : List ℕ) (q : v ≡ g t) (e : length (g t) ≡ 64) where
       -- the number of the next vector in the work buffer
       abbrev there : ℕ
-      there = at + (half + half) - length frame / 64 + t
+      there = at + (half + half) - places + t
 
       -- and in the frame and the work buffer together
       abbrev number : ℕ
@@ -68,9 +81,9 @@ module _ {at half : ℕ} {frame work : List ℕ} (given : LayerGiven at half fra
       both : frame ++ stored after there v ≡ withVector (frame ++ after) number (λ c. getD v c 0)
       both =
           let b = given .in-work in
-          let m : length frame / 64 + there ≡ number = omega arith in
+          let m : places + there ≡ number = omega arith in
           ap (λ (ys : List ℕ). frame ++ ys) (stored-there after there in-after v)
-          ∙ with-append (length frame / 64) frame after there (λ c. getD v c 0) (given .whole)
+          ∙ with-append (places) frame after there (λ c. getD v c 0) (given .whole)
           ∙ ap (λ (k : ℕ). withVector (frame ++ after) k (λ c. getD v c 0)) m
 
       -- so v is there
@@ -82,7 +95,7 @@ module _ {at half : ℕ} {frame work : List ℕ} (given : LayerGiven at half fra
       other i ne = ap (λ (ys : List ℕ). vectorAt ys i) both ∙ with-other (frame ++ after) number (λ c. getD v c 0) in-both i ne
 
       -- one vector more
-      pub layer-more : (next : List ℕ) → next ≡ stored after (at + (half + half) - length frame / 64 + t) v → StoredNodes at half frame work g next (t + 1)
+      pub layer-more : (next : List ℕ) → next ≡ stored after (at + (half + half) - places + t) v → StoredNodes at half frame work g next (t + 1)
       layer-more next w = subst (λ (x : List ℕ). StoredNodes at half frame work g x (t + 1)) (sym w) (record {
         few = omega arith;
         long = ap length (stored-there after there in-after v) ∙ with-long after there (λ c. getD v c 0) in-after ∙ s .long;

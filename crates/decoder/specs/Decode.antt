@@ -7,31 +7,33 @@ use lib.Dec.{eqb}
 use lib.ListN.{replicate}
 use Rattle.refusal.specs.Returned.{Returned}
 use Rattle.vector.specs.Vector.{vectorAt}
+use Rattle.polar_code.specs.Code.{Code}
+use Rattle.scms.specs.Mode.{Mode, modeOf}
 use Rattle.scms.specs.Decoder as scms
 use Rattle.scms.specs.Totals.{FrozenFirst, Unclipped}
 use Rattle.scms.specs.Claims.{CountZero, LeastTotals, Decided, BestWord}
 use Rattle.decoder.specs.declared.decoder.Answer.{Answer}
 use Rattle.decoder.specs.declared.decoder.Answer.the-variants.{Count, Refused}
-use Rattle.decoder_refusal.specs.Refusals.{decodeRefusal}
+use Rattle.decoder_refusal.specs.Refusals.{Settings, Lent, decodeRefusal}
 
--- the number and the values for each case of the answer: a decoded frame has the count of clipped entries, a refusal its number (for `decode` one of the
--- table 'Refused') and no value
+-- the number and the values for each case of the answer: a decoded frame has the count of clipped entries, a refusal
+-- its number (for `decode` one of the table 'Refused') and no value
 unfoldable pub returned : Answer → Returned
 returned (Count count) = record { number = 0; values = count ∷ [] }
 returned (Refused number) = record { number = number; values = [] }
 
-module _ (n : ℕ) (map cs : List ℕ) (qc qm : ℕ) (frame work symbols report : List ℕ) where
+module _ (code : Code) (settings : Settings) (frame : List ℕ) (lent : Lent) where
   -- the number of the refusal, 0 where the call is accepted
   abbrev refusal : ℕ
-  refusal = decodeRefusal n map cs qc qm frame work symbols report
+  refusal = decodeRefusal code settings frame lent
 
   -- the call is accepted: no row of the table fits
   abbrev pub Accepted : Type 0
   Accepted = refusal ≡ 0
 
-  -- the cap, 2^Qm − 1
-  abbrev cap : ℕ
-  cap = scms.capOf qm
+  -- what the nodes go by: the cap, 2^Qm − 1
+  abbrev mode : Mode
+  mode = modeOf (settings .qm)
 
   -- what is made where the call is accepted, or on a refusal what is kept
   abbrev either : List ℕ → List ℕ → List ℕ
@@ -39,35 +41,36 @@ module _ (n : ℕ) (map cs : List ℕ) (qc qm : ℕ) (frame work symbols report 
 
   -- the answer: the refusal, or the count of clipped entries over all variable nodes
   unfoldable pub decodeAnswer : Returned
-  decodeAnswer = record { number = refusal; values = either (scms.count n cap cs map frame ∷ []) [] }
+  decodeAnswer = record { number = refusal; values = either (scms.count code mode frame ∷ []) [] }
 
   -- the buffer for the symbols: those decided
   unfoldable pub decodeSymbols : List ℕ
-  decodeSymbols = either (scms.symbols n cap cs map frame) symbols
+  decodeSymbols = either (scms.symbols code mode frame) (lent .symbols)
 
   -- the buffer for the report: for each place, the 64 penalties held when it was decided
   unfoldable pub decodeReport : List ℕ
-  decodeReport = either (scms.report n cap cs map frame) report
+  decodeReport = either (scms.report code mode frame) (lent .report)
 
   -- the work buffer: all zeros
   unfoldable pub decodeWork : List ℕ
-  decodeWork = either (replicate (65 * 2 ^ n) 0) work
+  decodeWork = either (replicate (65 * 2 ^ code .n) 0) (lent .work)
 
-  -- The promise, for every input. First the answer r and the lent buffers at exit; the frame, the map and the coefficients are lent to be read only.
-  -- Then, where the call is accepted, the same without the cases: the count answered, the symbols, and what the report holds for each place. Then
-  -- what holds of these: the count is 0 exactly where the frame is unclipped, and always with Qm = 13; in an unclipped frame what is held for a
-  -- value is a least total, less the least of the 64; clipped or not, each decision; and in an unclipped frame, where all frozen places come first,
-  -- no word of the code has a smaller total than the word decided
-  pub record Decoded (workAfter symbolsAfter reportAfter : List ℕ) (r : Answer) : Type 0 where
+  -- The promise, for every input. First the answer r and the lent buffers at exit; the frame, the map and the
+  -- coefficients are lent to be read only. Then, where the call is accepted, the same without the cases: the count
+  -- answered, the symbols, and what the report holds for each place. Then what holds of these: the count is 0 exactly
+  -- where the frame is unclipped, and always with Qm = 13; in an unclipped frame what is held for a value is a least
+  -- total, less the least of the 64; clipped or not, each decision; and in an unclipped frame, where all frozen places
+  -- come first, no word of the code has a smaller total than the word decided
+  pub record Decoded (after : Lent) (r : Answer) : Type 0 where
     pub answer : returned r ≡ decodeAnswer
-    pub symbols-are : symbolsAfter ≡ decodeSymbols
-    pub report-is : reportAfter ≡ decodeReport
-    pub work-is : workAfter ≡ decodeWork
-    pub counted : Accepted → returned r ≡ record { number = 0; values = scms.count n cap cs map frame ∷ [] }
-    pub decided : Accepted → symbolsAfter ≡ scms.symbols n cap cs map frame
-    pub reported : Accepted → (i : ℕ) → i < 2 ^ n → vectorAt reportAfter i ≡ scms.held n cap cs map frame i
-    pub count-zero : Accepted → CountZero n cap cs map frame
-    pub none-clipped : Accepted → qm ≡ 13 → scms.count n cap cs map frame ≡ 0
-    pub least-totals : Accepted → Unclipped n cap cs map frame → (i : ℕ) → i < 2 ^ n → LeastTotals n cap cs map frame i
-    pub decisions : Accepted → (i : ℕ) → i < 2 ^ n → Decided n cap cs map frame i
-    pub best-word : Accepted → Unclipped n cap cs map frame → FrozenFirst n map → BestWord n cap cs map frame
+    pub symbols-are : after .symbols ≡ decodeSymbols
+    pub report-is : after .report ≡ decodeReport
+    pub work-is : after .work ≡ decodeWork
+    pub counted : Accepted → returned r ≡ record { number = 0; values = scms.count code mode frame ∷ [] }
+    pub decided : Accepted → after .symbols ≡ scms.symbols code mode frame
+    pub reported : Accepted → (i : ℕ) → i < 2 ^ code .n → vectorAt (after .report) i ≡ scms.held code mode frame i
+    pub count-zero : Accepted → CountZero code mode frame
+    pub none-clipped : Accepted → settings .qm ≡ 13 → scms.count code mode frame ≡ 0
+    pub least-totals : Accepted → Unclipped code mode frame → (i : ℕ) → i < 2 ^ code .n → LeastTotals code mode frame i
+    pub decisions : Accepted → (i : ℕ) → i < 2 ^ code .n → Decided code mode frame i
+    pub best-word : Accepted → Unclipped code mode frame → FrozenFirst code → BestWord code mode frame

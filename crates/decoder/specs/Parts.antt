@@ -4,59 +4,99 @@ use mathlib.Core.Path.{_≡_}
 use mathlib.Core.List.{List, [], _∷_, _++_}
 use lib.ListN.{length, getD, drop}
 use Rattle.vector.specs.Vector.{vectorAt, sumTo, HasZero, AtMost}
+use Rattle.vector.specs.Frame.{largestLlr}
 use Rattle.polar_code.specs.Code.{kindOf, Coefficients}
 use Rattle.polar.specs.Tree.{leaves, treeOf}
 use Rattle.polar.specs.Halves.{coefsAt}
 use Rattle.polar.specs.Parts.{Block}
-use Rattle.scms.specs.Nodes.{scaled, checkNode, clipped, exceeding, variableNode, clippedEntries}
-use Rattle.variable_node.specs.Parts.{lessFrom}
+use Rattle.scms.specs.Mode.{Mode}
+use Rattle.scms.specs.Nodes.{ordered, checkNode, lessFrom, clipped, exceeding, variableNode, clippedEntries}
 use Rattle.scms.specs.Decision.{decision}
 use Rattle.scms.specs.Halves.{Vectors, BlockAnswer, decodeTree, frameTree}
+use Rattle.decoder.specs.declared.vectors.BlockAt.{BlockAt}
 
--- ---- the vectors of the frame and after them those of the work buffer, numbered from 0 on. A block's vectors are 2^m of them from number `at`
--- on; those of its halves, one layer on, come after them.
+-- ---- the vectors of the frame, N of them, and after them those of the work buffer, numbered from 0 on. A block's
+-- vectors are 2^m of them from one number on; those of its halves, one layer on, come after them.
+
+-- what `load_vector` is given: the frame has `places` vectors, and number i is one of them or of the work buffer's
+pub record Numbered (places i : ℕ) (frame work : List ℕ) : Type 0 where
+  pub whole : length frame ≡ 64 * places
+  pub there : 64 * (i + 1) ≤ length frame + length work
 
 -- the first vectors of a list are as they were
 abbrev pub Kept : (count : ℕ) (before after : List ℕ) → Type 0
 Kept count before after = (i : ℕ) → i < count → vectorAt after i ≡ vectorAt before i
 
--- ---- the nodes of the kernels that join two halves of a block: kernel t has the block's places t and half + t, and coefficient start + t
+-- ---- the nodes of the kernels that join two halves of a block: kernel t has the block's places t and half + t, and
+-- coefficient start + t
 
 -- what they are given
-pub record LayerGiven (at half : ℕ) (frame work : List ℕ) : Type 0 where
+pub record LayerGiven (block : BlockAt) (half : ℕ) (frame work : List ℕ) : Type 0 where
   pub few : half ≤ 128
-  pub whole : length frame ≡ 64 * (length frame / 64)
-  pub in-work : length frame / 64 ≤ at + (half + half)
-  pub long : 64 * (at + (half + half) + half) ≤ length frame + length work
-  pub most : (i : ℕ) → i < half + half → AtMost 8191 (vectorAt (frame ++ work) (at + i))
+  pub whole : length frame ≡ 64 * block .places
+  pub in-work : block .places ≤ block .at + (half + half)
+  pub long : 64 * (block .at + (half + half) + half) ≤ length frame + length work
+  pub most : (i : ℕ) → i < half + half → AtMost largestLlr (vectorAt (frame ++ work) (block .at + i))
 
 -- and with it the check nodes their coefficients
-pub record KernelsGiven (at half start : ℕ) (cs frame work : List ℕ) : Type 0 where
-  pub layer : LayerGiven at half frame work
+pub record KernelsGiven (block : BlockAt) (half : ℕ) (cs frame work : List ℕ) : Type 0 where
+  pub layer : LayerGiven block half frame work
   pub few-coefs : length cs ≤ 1024
-  pub room : start + half ≤ length cs
+  pub room : block .start + half ≤ length cs
 
--- φ's vector of kernel t, in the order of c
-abbrev pub orderedAt : (at half start : ℕ) (cs source : List ℕ) (t : ℕ) → List ℕ
-orderedAt at half start cs source t = scaled (getD cs (start + t) 1) (vectorAt source (at + (half + t)))
+-- θ's vector of kernel t
+abbrev pub thetaAt : (at : ℕ) (source : List ℕ) (t : ℕ) → List ℕ
+thetaAt at source t = vectorAt source (at + t)
 
--- those of the first `count` kernels, made from one list, are the first vectors of another
-abbrev pub AreOrdered : (count at half start : ℕ) (cs source ordered : List ℕ) → Type 0
-AreOrdered count at half start cs source ordered = (t : ℕ) → t < count → vectorAt ordered t ≡ orderedAt at half start cs source t
+-- and φ's
+abbrev pub phiAt : (at half : ℕ) (source : List ℕ) (t : ℕ) → List ℕ
+phiAt at half source t = vectorAt source (at + (half + t))
 
--- the check node of kernel t, made from the block's vectors
-abbrev pub checkAt : (at half start : ℕ) (cs source : List ℕ) (t : ℕ) → List ℕ
-checkAt at half start cs source t = checkNode (getD cs (start + t) 1) (vectorAt source (at + t)) (vectorAt source (at + (half + t)))
+-- the block's kernels, and the list from which its vectors are read
+module _ (block : BlockAt) (half : ℕ) (cs source : List ℕ) where
+  -- the coefficient of kernel t
+  abbrev pub coefAt : ℕ → ℕ
+  coefAt t = getD cs (block .start + t) 1
 
--- those of the first `count` kernels, made from one list, stand in another after the block's vectors
-abbrev pub AreCheckNodes : (count at half start : ℕ) (cs source target : List ℕ) → Type 0
-AreCheckNodes count at half start cs source target = (t : ℕ) → t < count → vectorAt target (at + (half + half) + t) ≡ checkAt at half start cs source t
+  -- φ's vector of kernel t, in the order of c
+  abbrev pub orderedAt : ℕ → List ℕ
+  orderedAt t = ordered (coefAt t) (phiAt (block .at) half source t)
+
+  -- those of the first `count` kernels are the first vectors of another list
+  abbrev pub AreOrdered : (count : ℕ) (target : List ℕ) → Type 0
+  AreOrdered count target = (t : ℕ) → t < count → vectorAt target t ≡ orderedAt t
+
+  -- the check node of kernel t, made from the block's vectors
+  abbrev pub checkAt : ℕ → List ℕ
+  checkAt t = checkNode (coefAt t) (thetaAt (block .at) source t) (phiAt (block .at) half source t)
+
+  -- those of the first `count` kernels stand in another list after the block's vectors
+  abbrev pub AreCheckNodes : (count : ℕ) (target : List ℕ) → Type 0
+  AreCheckNodes count target = (t : ℕ) → t < count → vectorAt target (block .at + (half + half) + t) ≡ checkAt t
+
+  -- the symbols decided in the first half
+  module _ (word : List ℕ) where
+    -- the variable node of kernel t, with φ's vector as it came
+    abbrev pub variableAt : ℕ → List ℕ
+    variableAt t =
+        variableNode (block .cap) (coefAt t) (getD word t 0) (thetaAt (block .at) source t)
+        (phiAt (block .at) half source t)
+
+    -- those of the first `count` kernels, as the check nodes above
+    abbrev pub AreVariableNodes : (count : ℕ) (target : List ℕ) → Type 0
+    AreVariableNodes count target = (t : ℕ) → t < count → vectorAt target (block .at + (half + half) + t) ≡ variableAt t
+
+    -- and their count of clipped entries
+    abbrev pub clippedTo : (count : ℕ) → ℕ
+    clippedTo count = sumTo count (λ t.
+        clippedEntries (block .cap) (coefAt t) (getD word t 0) (thetaAt (block .at) source t)
+        (phiAt (block .at) half source t))
 
 -- what `check_nodes` leaves, of the work buffer before and after it and of the slice for φ's vectors
-pub record CheckNodesWritten (at half start : ℕ) (cs frame work after ordered : List ℕ) : Type 0 where
-  pub kept : Kept (at + (half + half)) (frame ++ work) (frame ++ after)
-  pub nodes : AreCheckNodes half at half start cs (frame ++ work) (frame ++ after)
-  pub ordered-are : AreOrdered half at half start cs (frame ++ work) ordered
+pub record CheckNodesWritten (block : BlockAt) (half : ℕ) (cs frame work after target : List ℕ) : Type 0 where
+  pub kept : Kept (block .at + (half + half)) (frame ++ work) (frame ++ after)
+  pub nodes : AreCheckNodes block half cs (frame ++ work) half (frame ++ after)
+  pub ordered-are : AreOrdered block half cs (frame ++ work) half target
 
 -- the symbols of the first half that variable nodes are given
 pub record FirstSymbols (half : ℕ) (word : List ℕ) : Type 0 where
@@ -64,90 +104,87 @@ pub record FirstSymbols (half : ℕ) (word : List ℕ) : Type 0 where
   pub symbols : (t : ℕ) → t < half → getD word t 0 < 64
 
 -- φ's vectors in the order of c that they are given
-pub record OrderedGiven (half : ℕ) (ordered : List ℕ) : Type 0 where
-  pub long : 64 * half ≤ length ordered
-  pub most : (t : ℕ) → t < half → AtMost 8191 (vectorAt ordered t)
+pub record OrderedGiven (half : ℕ) (given : List ℕ) : Type 0 where
+  pub long : 64 * half ≤ length given
+  pub most : (t : ℕ) → t < half → AtMost largestLlr (vectorAt given t)
 
 -- the sums of the variable node of kernel t, less the least of them: what it is before the clip
-abbrev pub lessAt : (at : ℕ) (word source ordered : List ℕ) (t : ℕ) → List ℕ
-lessAt at word source ordered t = lessFrom (getD word t 0) (vectorAt source (at + t)) (vectorAt ordered t)
+abbrev pub lessAt : (at : ℕ) (word source given : List ℕ) (t : ℕ) → List ℕ
+lessAt at word source given t = lessFrom (getD word t 0) (thetaAt at source t) (vectorAt given t) .rest
 
 -- what `variable_nodes` leaves: each node clipped, and the count of clipped entries
-pub record VariableNodesWritten (at half cap : ℕ) (word frame work ordered after : List ℕ) (count : ℕ) : Type 0 where
-  pub kept : Kept (at + (half + half)) (frame ++ work) (frame ++ after)
-  pub nodes : (t : ℕ) → t < half → vectorAt (frame ++ after) (at + (half + half) + t) ≡ clipped cap (lessAt at word (frame ++ work) ordered t)
-  pub count-is : count ≡ sumTo half (λ t. exceeding cap (lessAt at word (frame ++ work) ordered t))
+pub record VariableNodesWritten (block : BlockAt) (half : ℕ) (word frame work given after : List ℕ)
+    (count : ℕ) : Type 0 where
+  pub kept : Kept (block .at + (half + half)) (frame ++ work) (frame ++ after)
+  pub nodes : (t : ℕ) → t < half
+      → vectorAt (frame ++ after) (block .at + (half + half) + t)
+      ≡ clipped (block .cap) (lessAt (block .at) word (frame ++ work) given t)
+  pub count-is : count ≡ sumTo half (λ t. exceeding (block .cap) (lessAt (block .at) word (frame ++ work) given t))
   pub few : count ≤ 64 * half
 
--- the variable node of kernel t, with φ's vector as it came
-abbrev pub variableAt : (at half start cap : ℕ) (cs word source : List ℕ) (t : ℕ) → List ℕ
-variableAt at half start cap cs word source t =
-    variableNode cap (getD cs (start + t) 1) (getD word t 0) (vectorAt source (at + t)) (vectorAt source (at + (half + t)))
-
--- those of the first `count` kernels, as the check nodes above
-abbrev pub AreVariableNodes : (count at half start cap : ℕ) (cs word source target : List ℕ) → Type 0
-AreVariableNodes count at half start cap cs word source target =
-    (t : ℕ) → t < count → vectorAt target (at + (half + half) + t) ≡ variableAt at half start cap cs word source t
-
--- and their count of clipped entries
-abbrev pub clippedTo : (count at half start cap : ℕ) (cs word source : List ℕ) → ℕ
-clippedTo count at half start cap cs word source =
-    sumTo count (λ t. clippedEntries cap (getD cs (start + t) 1) (getD word t 0) (vectorAt source (at + t)) (vectorAt source (at + (half + t))))
-
--- ---- one place, whose vector is number `at`
+-- ---- one place
 
 -- what `decode_place` is given
-pub record OnePlace (at : ℕ) (map frame work word symbols report : List ℕ) : Type 0 where
+pub record OnePlace (block : BlockAt) (map frame work word symbols report : List ℕ) : Type 0 where
   pub map-long : length map ≡ 1
   pub word-long : length word ≡ 1
   pub symbols-long : length symbols ≡ 1
   pub report-long : length report ≡ 64
-  pub whole : length frame ≡ 64 * (length frame / 64)
-  pub long : 64 * (at + 1) ≤ length frame + length work
+  pub numbered : Numbered (block .places) (block .at) frame work
 
 -- and what it leaves: the symbol decided from the place's vector, which is reported
-pub record PlaceDecoded (at : ℕ) (map frame work word symbols report : List ℕ) : Type 0 where
-  pub word-is : word ≡ decision (kindOf (getD map 0 0)) (vectorAt (frame ++ work) at) ∷ []
-  pub symbols-are : symbols ≡ decision (kindOf (getD map 0 0)) (vectorAt (frame ++ work) at) ∷ []
-  pub report-is : vectorAt report 0 ≡ vectorAt (frame ++ work) at
+pub record PlaceDecoded (block : BlockAt) (map frame work word symbols report : List ℕ) : Type 0 where
+  pub word-is : word ≡ decision (kindOf (getD map 0 0)) (vectorAt (frame ++ work) (block .at)) ∷ []
+  pub symbols-are : symbols ≡ decision (kindOf (getD map 0 0)) (vectorAt (frame ++ work) (block .at)) ∷ []
+  pub report-is : vectorAt report 0 ≡ vectorAt (frame ++ work) (block .at)
 
--- ---- a block of 2^m places
+-- ---- a block
 
--- a vector that a block is given: no entry above 8,191, and one that is 0, so that no entry of a check node is above that number either
+-- a vector that a block is given: no entry above 8,191, and one that is 0, so that no entry of a check node is above
+-- that number either
 pub record BlockVector (v : List ℕ) : Type 0 where
-  pub most : AtMost 8191 v
+  pub most : AtMost largestLlr v
   pub zero : HasZero v
 
 -- what `decode_block` is given
-pub record BlockGiven (m start cap at : ℕ) (cs map frame work word symbols report : List ℕ) : Type 0 where
-  pub block : Block m (length map / 2) start (length frame / 128) cs word
-  pub cap-small : cap ≤ 8191
-  pub coefs : Coefficients cs
-  pub map-long : length map ≡ 2 ^ m
-  pub symbols-long : length symbols ≡ 2 ^ m
-  pub report-long : length report ≡ 64 * 2 ^ m
-  pub whole : length frame ≡ 64 * (length frame / 64)
-  pub in-work : length frame / 64 ≤ at + 2 ^ m
-  pub long : 64 * (at + (2 ^ m + 2 ^ m)) ≤ length frame + length work + 64
-  pub vectors : (i : ℕ) → i < 2 ^ m → BlockVector (vectorAt (frame ++ work) (at + i))
+pub record BlockGiven (block : BlockAt) (cs map frame work word symbols report : List ℕ) : Type 0 where
+  pub of-word : Block (block .layers) (length map / 2) (block .start) (block .places / 2) cs word
+  pub cap-small : block .cap ≤ largestLlr
+  pub nonzero : Coefficients cs
+  pub map-long : length map ≡ 2 ^ block .layers
+  pub symbols-long : length symbols ≡ 2 ^ block .layers
+  pub report-long : length report ≡ 64 * 2 ^ block .layers
+  pub whole : length frame ≡ 64 * block .places
+  pub in-work : block .places ≤ block .at + 2 ^ block .layers
+  pub long : 64 * (block .at + (2 ^ block .layers + 2 ^ block .layers)) ≤ length frame + length work + 64
+  pub vectors : (i : ℕ) → i < 2 ^ block .layers → BlockVector (vectorAt (frame ++ work) (block .at + i))
 
--- a block's vectors, as a tree
+-- the vectors of 2^m places from number `at` on, as a tree
 abbrev pub vectorsFrom : (m at : ℕ) → List ℕ → Vectors m
 vectorsFrom m at source = frameTree m (drop (64 * at) source)
 
+-- what the nodes go by
+abbrev pub modeAt : BlockAt → Mode
+modeAt block = record { cap = block .cap }
+
 -- a block's answer, from its vectors
-abbrev pub blockAnswer : (m start stride cap : ℕ) (cs map : List ℕ) → Vectors m → BlockAnswer m
-blockAnswer m start stride cap cs map f = decodeTree m cap (coefsAt m start stride cs) (treeOf 0 m map) f
+abbrev pub blockAnswer : (block : BlockAt) (cs map : List ℕ) → Vectors (block .layers) → BlockAnswer (block .layers)
+blockAnswer block cs map f =
+    decodeTree (block .layers) (modeAt block) (coefsAt (block .layers) (block .start) (block .places / 2) cs)
+    (treeOf 0 (block .layers) map) f
 
 -- what is left of it in the buffers
-pub record BlockDecoded (m start stride cap : ℕ) (cs map : List ℕ) (f : Vectors m) (word symbols report : List ℕ) (count : ℕ) : Type 0 where
-  pub word-is : word ≡ leaves m (blockAnswer m start stride cap cs map f .word)
-  pub symbols-are : symbols ≡ leaves m (blockAnswer m start stride cap cs map f .symbols)
-  pub report-is : frameTree m report ≡ blockAnswer m start stride cap cs map f .held
-  pub count-is : count ≡ blockAnswer m start stride cap cs map f .count
-  pub few : count ≤ 64 * (m * 2 ^ m)
+pub record BlockDecoded (block : BlockAt) (cs map : List ℕ) (f : Vectors (block .layers)) (word symbols report : List ℕ)
+    (count : ℕ) : Type 0 where
+  pub word-is : word ≡ leaves (block .layers) (blockAnswer block cs map f .word)
+  pub symbols-are : symbols ≡ leaves (block .layers) (blockAnswer block cs map f .symbols)
+  pub report-is : frameTree (block .layers) report ≡ blockAnswer block cs map f .held
+  pub count-is : count ≡ blockAnswer block cs map f .count
+  pub few : count ≤ 64 * (block .layers * 2 ^ block .layers)
 
 -- what `decode_block` leaves: that answer, and the block's own vectors and all before them as they were
-pub record WorkDecoded (m start cap at : ℕ) (cs map frame work after word symbols report : List ℕ) (count : ℕ) : Type 0 where
-  pub decoded : BlockDecoded m start (length frame / 128) cap cs map (vectorsFrom m at (frame ++ work)) word symbols report count
-  pub kept : Kept (at + 2 ^ m) (frame ++ work) (frame ++ after)
+pub record WorkDecoded (block : BlockAt) (cs map frame work after word symbols report : List ℕ)
+    (count : ℕ) : Type 0 where
+  pub decoded : BlockDecoded block cs map (vectorsFrom (block .layers) (block .at) (frame ++ work))
+      word symbols report count
+  pub kept : Kept (block .at + 2 ^ block .layers) (frame ++ work) (frame ++ after)

@@ -1,7 +1,10 @@
 // The decoder: a frame of penalties to the symbols of its word.
 use crate::block::decode_block;
+use crate::vectors::BlockAt;
 ghost use mathlib.Core.Path.{_≡_};
 ghost use lib.ListN.{length, replicate};
+ghost use Rattle.polar_code.specs.Code.{codeOf};
+ghost use Rattle.decoder_refusal.specs.Refusals.{settingsOf, lentOf};
 ghost use Rattle.decoder.specs.Decode.{Decoded};
 
 // What `decode` answers, and a call that ends in it.
@@ -23,10 +26,11 @@ fn clear(s: &mut [u16])
     }
 }
 
-// Decodes a frame: 64 penalties of at most 2^qc - 1, a 0 among them, for each of the N = 2^n places, by the code with n layers, this map and
-// these coefficients, at the internal precision qm. Answers the count of clipped entries, with the symbols of the N places and the report (the
-// 64 penalties held for each place when it was decided) in the buffers lent for them, and the work buffer, of 65 N numbers, all zeros; or the
-// lowest refusal of 1, 2, 3, 4, 5, 6, 8 and 9 that fits, and every buffer as it came.
+// Decodes a frame: 64 penalties of at most 2^qc - 1, a 0 among them, for each of the N = 2^n places, by the code with n
+// layers, this map and these coefficients, at the internal precision qm. Answers the count of clipped entries, with the
+// symbols of the N places and the report (the 64 penalties held for each place when it was decided) in the buffers lent
+// for them, and the work buffer, of 65 N numbers, all zeros; or the lowest refusal of 1, 2, 3, 4, 5, 6, 8 and 9 that
+// fits, and every buffer as it came.
 pub fn decode(
     n: usize,
     map: &[u8],
@@ -38,8 +42,9 @@ pub fn decode(
     symbols: &mut [u8],
     report: &mut [u16],
 ) -> Answer
-    ensures { λ r. ⌜ Decoded n (now (map .entry)) (now (coefs .entry)) qc qm (now (frame .entry)) (now (work .entry)) (now (symbols .entry))
-        (now (report .entry)) (now (work .exit)) (now (symbols .exit)) (now (report .exit)) r ⌝ }
+    ensures { λ r. ⌜ Decoded (codeOf n (now (map .entry)) (now (coefs .entry))) (settingsOf qc qm) (now (frame .entry))
+        (lentOf (now (work .entry)) (now (symbols .entry)) (now (report .entry)))
+        (lentOf (now (work .exit)) (now (symbols .exit)) (now (report .exit))) r ⌝ }
 {
     let refused = decoder_refusal::decode_refusal(
         n,
@@ -58,14 +63,17 @@ pub fn decode(
     // The transform of the symbols decided: room for the longest word.
     let mut word = [0u8; 256];
     let size = map.len();
-    let cap = vector::largest(qm);
+    let whole = BlockAt {
+        layers: n,
+        start: 0,
+        at: 0,
+        places: size,
+        cap: vector::largest(qm),
+    };
     let count = decode_block(
-        n,
-        0,
+        whole,
         coefs,
         map,
-        cap,
-        0,
         frame,
         work,
         &mut word[..size],

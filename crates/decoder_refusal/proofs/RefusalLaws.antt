@@ -1,8 +1,9 @@
--- The laws of the refusals of `decode`: the two parts of its table, the scan for a vector with no 0, and what it means that a call is taken.
+-- The laws of the refusals of `decode`: the two parts of its table, the scan for a vector with no 0, and what it means
+-- that a call is accepted.
 use mathlib.Core.Path.{_≡_, refl, sym, ap, ap₂, _∙_}
 use mathlib.Core.Logic.{inl, inr}
 use mathlib.Core.Bool.{Bool, true, false, not, _&&_, _||_}
-use mathlib.Core.List.{List, [], _∷_}
+use mathlib.Core.List.{List, [], _∷_, _++_}
 use Prim.Native.Nat.{ℕ, zero, suc, _+_, _*_, _/_, _-_, _^_, _≤_, _<_, max}
 use native.Mathlib.Nat.{le-of-suc-le-suc, not-suc-le-zero, zero-lt-suc}
 use native.Mathlib.Decide.{decLt}
@@ -10,20 +11,24 @@ use native.Mathlib.Numerals.{add-one}
 use native.Mathlib.Omega.{arith}
 use borrow.Author.Count.{below-none, below-more}
 use borrow.Author.Tests.{eq-eqb, ne-eqb, eqb-true, lt-ltb, le-ltb}
-use lib.Dec.{ltb, eqb, lit<}
+use lib.Dec.{ltb, eqb}
 use lib.ListN.{length, getD, drop, drop-of-length-le}
 use lib.Seq.{drop-cons}
 use Rattle.refusal.specs.Tests.{outside, anyOutside, anyTo}
-use Rattle.refusal.specs.Table.{refusalOf, OneOf, Numbered}
-use Rattle.refusal.proofs.Laws.{taken-none, first-refused, first-taken, both-taken, taken-both, refusal-has}
+use Rattle.refusal.specs.Table.{Row, refusalOf, OneOf, Numbered}
+use Rattle.refusal.proofs.Laws.{accepted-none, first-refused, first-accepted, both-accepted, accepted-both}
+use Rattle.refusal.proofs.WalkLaws.{numbered, same-after}
+use Rattle.refusal.proofs.Among.{Among, refusal-among}
 use Rattle.refusal.proofs.AnyTo.{any-there, none-there, each-not}
-use Rattle.refusal.proofs.Within.{not-both, above-outside, inside-within, within-inside, none-within, within-none, false-equal, equal-false}
+use Rattle.refusal.proofs.Within.{above-outside, inside-within, within-inside, none-within, within-none, false-equal, equal-false}
 use Rattle.vector.specs.Vector.{vectorAt}
-use Rattle.vector.specs.Frame.{IsFrame}
+use Rattle.vector.specs.Frame.{largest, IsFrame}
 use Rattle.vector.proofs.SliceLaws.{vector-long, vector-entry}
-use Rattle.polar_code.specs.Code.{IsCode}
-use Rattle.polar_code.proofs.CodeLaws.{rows-code, code-sizes, code-bytes}
-use Rattle.decoder_refusal.specs.Refusals.{noZero, greatest, llrsRow, zerosRow, sizeTable, contentTable, decodeTable, decodeRefusal, Decodable}
+use Rattle.vector.proofs.FrameLaws.{largest-is}
+use Rattle.polar_code.specs.Code.{Code, codeSizes, IsCode}
+use Rattle.polar_code.specs.Sizes.{placesOf}
+use Rattle.polar_code.proofs.CodeLaws.{rows-code, code-sizes, code-bytes, after-sizes}
+use Rattle.decoder_refusal.specs.Refusals.{noZero, greatest, llrsRow, zerosRow, bufferRows, sizeTable, codeRows, frameRows, contentTable, decodeTable, decodeRefusal, Decodable, Settings, Lent}
 
 -- ---- lists with no 0
 
@@ -176,133 +181,121 @@ module _ (qc : ℕ) (frame : List ℕ) (f : IsFrame qc frame) where
       let in-vector = z .within in
       zero-there (vectorAt frame i) (z .zero-at) (omega arith) (z .is-zero))
 
--- ---- the two parts of the table
-module _ (n : ℕ) (map cs frame work symbols report : List ℕ) where
+-- ---- the rows as `size_refusal` and `content_refusal` try them
+
+-- the lengths of the buffers with the places that `place_count` gives
+pub buffers-tried : (code : Code) (frame : List ℕ) (lent : Lent) {r : ℕ}
+    → r ≡ refusalOf (codeSizes code ++ bufferRows (placesOf (code .n)) frame lent) → r ≡ refusalOf (sizeTable code frame lent)
+buffers-tried code frame lent = after-sizes code (λ places. bufferRows places frame lent)
+
+-- the penalties with the largest one that `largest` gives
+pub penalties-tried : (map cs : List ℕ) (settings : Settings) (frame : List ℕ) {r : ℕ}
+    → r ≡ refusalOf (codeRows map cs settings ++ frameRows (largest (settings .qc)) (length frame / 64) frame)
+    → r ≡ refusalOf (contentTable (length frame / 64) map cs settings frame)
+penalties-tried map cs settings frame e =
+    let qc = settings .qc in
+    let places = length frame / 64 in
+    e
+    ∙ same-after (codeRows map cs settings) (frameRows (largest qc) places frame) (frameRows (2 ^ qc - 1) places frame) (λ none.
+    let few = inside-within 1 5 qc (none .0) .most in
+    ap (λ (most : ℕ). refusalOf (frameRows most places frame)) (largest-is qc (omega arith)))
+
+-- ---- the two parts of the table, and that a call is accepted exactly when no row fits
+module _ (code : Code) (settings : Settings) (frame : List ℕ) (lent : Lent) where
+  -- N
+  abbrev size : ℕ
+  size = 2 ^ code .n
+
+  -- the rows on n and the lengths
+  abbrev sizes : List Row
+  sizes = sizeTable code frame lent
+
+  -- the others
+  abbrev contents : List Row
+  contents = contentTable size (code .map) (code .coefs) settings frame
+
   -- no row of the first part has the number 0
-  sizes-numbered : Numbered (sizeTable n map cs frame work symbols report)
-  sizes-numbered = (lit< tt, (lit< tt, (lit< tt, (lit< tt, (lit< tt, (lit< tt, (lit< tt, tt)))))))
+  sizes-numbered : Numbered sizes
+  sizes-numbered = numbered sizes tt
+
+  -- nor one of the others
+  contents-numbered : Numbered contents
+  contents-numbered = numbered contents tt
 
   -- the sizes are refused
-  pub size-refused : (qc qm r : ℕ) → r ≡ refusalOf (sizeTable n map cs frame work symbols report) → (r ≡ 0 → ⊥)
-      → r ≡ decodeRefusal n map cs qc qm frame work symbols report
+  pub size-refused : (r : ℕ) → r ≡ refusalOf sizes → (r ≡ 0 → ⊥) → r ≡ decodeRefusal code settings frame lent
   unfolding decodeRefusal
-  size-refused qc qm r e h =
-      first-refused (sizeTable n map cs frame work symbols report) (contentTable (2 ^ n) map cs qc qm frame) e h
+  size-refused r e h = first-refused sizes contents e h
 
-  -- they are taken: the frame has 2^n vectors, and the rest decides
-  pub size-taken : (qc qm r : ℕ) → refusalOf (sizeTable n map cs frame work symbols report) ≡ 0
-      → r ≡ refusalOf (contentTable (length frame / 64) map cs qc qm frame) → r ≡ decodeRefusal n map cs qc qm frame work symbols report
+  -- they are accepted: the frame has 2^n vectors, and the rest decides
+  pub size-accepted : (r : ℕ) → refusalOf sizes ≡ 0
+      → r ≡ refusalOf (contentTable (length frame / 64) (code .map) (code .coefs) settings frame)
+      → r ≡ decodeRefusal code settings frame lent
   unfolding decodeRefusal
-  size-taken qc qm r e f =
-      let none = taken-none (sizeTable n map cs frame work symbols report) sizes-numbered e in
-      let long = false-equal (length frame) (64 * 2 ^ n) (none .1 .1 .1 .0) in
-      let places : length frame / 64 ≡ 2 ^ n = omega arith in
-      first-taken (sizeTable n map cs frame work symbols report) (contentTable (2 ^ n) map cs qc qm frame) sizes-numbered e
-      (f ∙ ap (λ (k : ℕ). refusalOf (contentTable k map cs qc qm frame)) places)
+  size-accepted r e f =
+      let none = accepted-none sizes sizes-numbered e in
+      let long = false-equal (length frame) (64 * size) (none .1 .1 .1 .0) in
+      let places : length frame / 64 ≡ size = omega arith in
+      first-accepted sizes contents sizes-numbered e
+      (f ∙ ap (λ (k : ℕ). refusalOf (contentTable k (code .map) (code .coefs) settings frame)) places)
 
--- ---- taken exactly when no row fits
-module _ (n : ℕ) (map cs : List ℕ) (qc qm : ℕ) (frame work symbols report : List ℕ) where
-  -- no row of the second part has the number 0
-  contents-numbered : Numbered (contentTable (2 ^ n) map cs qc qm frame)
-  contents-numbered = (lit< tt, (lit< tt, (lit< tt, (lit< tt, (lit< tt, (lit< tt, (lit< tt, tt)))))))
-
-  -- taken: what the rows test holds
-  pub taken : decodeRefusal n map cs qc qm frame work symbols report ≡ 0 → Decodable n map cs qc qm frame work symbols report
+  -- accepted: what the rows test holds
+  pub accepted : decodeRefusal code settings frame lent ≡ 0 → Decodable code settings frame lent
   unfolding decodeRefusal
-  taken e =
-      let parts = taken-both (sizeTable n map cs frame work symbols report) (contentTable (2 ^ n) map cs qc qm frame)
-      (sizes-numbered n map cs frame work symbols report) contents-numbered e in
-      let sizes = parts .0 in
-      let rooms = sizes .1 .1 .1 in
-      let contents = parts .1 in
-      let bytes = contents .1 .1 in
-      let long = false-equal (length frame) (64 * 2 ^ n) (rooms .0) in
+  accepted e =
+      let qc = settings .qc in
+      let parts = accepted-both sizes contents sizes-numbered contents-numbered e in
+      let by-size = parts .0 in
+      let rooms = by-size .1 .1 .1 in
+      let by-content = parts .1 in
+      let bytes = by-content .1 .1 in
+      let long = false-equal (length frame) (64 * size) (rooms .0) in
       record {
-        code = rows-code n map cs (sizes .0, (sizes .1 .0, (sizes .1 .1 .0, tt))) (bytes .0, (bytes .1 .0, (bytes .1 .1 .0, tt)));
+        is-code = rows-code code (by-size .0, (by-size .1 .0, (by-size .1 .1 .0, tt))) (bytes .0, (bytes .1 .0, (bytes .1 .1 .0, tt)));
         frame-long = long;
-        work-long = false-equal (length work) (65 * 2 ^ n) (rooms .1 .0);
-        symbols-long = false-equal (length symbols) (2 ^ n) (rooms .1 .1 .0);
-        report-long = false-equal (length report) (64 * 2 ^ n) (rooms .1 .1 .1 .0);
-        channel-precision = inside-within 1 5 qc (contents .0);
-        internal-precision = inside-within qc 13 qm (contents .1 .0);
+        work-long = false-equal (length (lent .work)) (65 * size) (rooms .1 .0);
+        symbols-long = false-equal (length (lent .symbols)) size (rooms .1 .1 .0);
+        report-long = false-equal (length (lent .report)) (64 * size) (rooms .1 .1 .1 .0);
+        channel-precision = inside-within 1 5 qc (by-content .0);
+        internal-precision = inside-within qc 13 (settings .qm) (by-content .1 .0);
         is-frame = record {
           small = λ j l. none-within 0 (2 ^ qc - 1) 0 frame (bytes .1 .1 .1 .0) j l .most;
           zeros = λ i l.
-              let s : i < 2 ^ n = omega arith in
-              let z = some-zero (vectorAt frame i) (each-not (lacksZero frame) (2 ^ n) (bytes .1 .1 .1 .1 .0) i s) in
-              let size = long-at frame i l in
+              let s : i < size = omega arith in
+              let z = some-zero (vectorAt frame i) (each-not (lacksZero frame) size (bytes .1 .1 .1 .1 .0) i s) in
+              let entries = long-at frame i l in
               let in-vector = z .1 in
               record { zero-at = z .0; within = omega arith; is-zero = z .2 };
         };
       }
 
   -- and the other way round
-  pub takes : Decodable n map cs qc qm frame work symbols report → decodeRefusal n map cs qc qm frame work symbols report ≡ 0
+  pub accepts : Decodable code settings frame lent → decodeRefusal code settings frame lent ≡ 0
   unfolding decodeRefusal
-  takes t =
-      let sizes = code-sizes n map cs (t .code) in
-      let frame-room = equal-false (length frame) (64 * 2 ^ n) (t .frame-long) in
-      let work-room = equal-false (length work) (65 * 2 ^ n) (t .work-long) in
-      let symbols-room = equal-false (length symbols) (2 ^ n) (t .symbols-long) in
-      let report-room = equal-false (length report) (64 * 2 ^ n) (t .report-long) in
+  accepts t =
+      let qc = settings .qc in
+      let by-size = code-sizes code (t .is-code) in
+      let frame-room = equal-false (length frame) (64 * size) (t .frame-long) in
+      let work-room = equal-false (length (lent .work)) (65 * size) (t .work-long) in
+      let symbols-room = equal-false (length (lent .symbols)) size (t .symbols-long) in
+      let report-room = equal-false (length (lent .report)) (64 * size) (t .report-long) in
       let qc-fits = within-inside 1 5 qc (t .channel-precision) in
-      let qm-fits = within-inside qc 13 qm (t .internal-precision) in
-      let bytes = code-bytes n map cs (t .code) in
+      let qm-fits = within-inside qc 13 (settings .qm) (t .internal-precision) in
+      let bytes = code-bytes code (t .is-code) in
       let small = small-frame qc frame (t .is-frame) in
-      let zeros = zeros-frame qc frame (t .is-frame) (2 ^ n) (let long = t .frame-long in omega arith) in
-      both-taken (sizeTable n map cs frame work symbols report) (contentTable (2 ^ n) map cs qc qm frame)
-      (sizes .0, (sizes .1 .0, (sizes .1 .1 .0, (frame-room, (work-room, (symbols-room, (report-room, tt)))))))
+      let zeros = zeros-frame qc frame (t .is-frame) size (let long = t .frame-long in omega arith) in
+      both-accepted sizes contents
+      (by-size .0, (by-size .1 .0, (by-size .1 .1 .0, (frame-room, (work-room, (symbols-room, (report-room, tt)))))))
       (qc-fits, (qm-fits, (bytes .0, (bytes .1 .0, (bytes .1 .1 .0, (small, (zeros, tt)))))))
 
--- ---- the numbers that are left for a code
-
--- a row that does not fit asks for nothing
-skip : {t : Bool} {A : Type 0} → t ≡ false → t ≡ true → A
-skip e f = absurd (not-both e f)
-
-module _ (n : ℕ) (map cs : List ℕ) (qc qm : ℕ) (frame work symbols report : List ℕ) (code : IsCode n map cs) where
   -- a code is not refused by 1, 4, 5 or 6, whatever else the call is given
-  pub code-numbers : OneOf (decodeRefusal n map cs qc qm frame work symbols report) (0 ∷ 2 ∷ 3 ∷ 8 ∷ 9 ∷ [])
+  pub code-numbers : IsCode code → OneOf (decodeRefusal code settings frame lent) (0 ∷ 2 ∷ 3 ∷ 8 ∷ 9 ∷ [])
   unfolding decodeRefusal
-  code-numbers =
-      let sizes = code-sizes n map cs code in
-      let bytes = code-bytes n map cs code in
-      let two : OneOf 2 (0 ∷ 2 ∷ 3 ∷ 8 ∷ 9 ∷ []) = inr (inl refl) in
-      let three : OneOf 3 (0 ∷ 2 ∷ 3 ∷ 8 ∷ 9 ∷ []) = inr (inr (inl refl)) in
-      refusal-has (λ k. OneOf k (0 ∷ 2 ∷ 3 ∷ 8 ∷ 9 ∷ [])) (inl refl) (decodeTable n map cs qc qm frame work symbols report) (
-        skip (sizes .0),
-        (
-          (λ e. two),
-          (
-            (λ e. two),
-            (
-              (λ e. two),
-              (
-                (λ e. two),
-                (
-                  (λ e. two),
-                  (
-                    (λ e. two),
-                    (
-                      (λ e. three),
-                      (
-                        (λ e. three),
-                        (
-                          skip (bytes .0),
-                          (
-                            skip (bytes .1 .0),
-                            (
-                              skip (bytes .1 .1 .0),
-                              ((λ e. inr (inr (inr (inl refl)))), ((λ e. inr (inr (inr (inr (inl refl))))), tt)),
-                            ),
-                          ),
-                        ),
-                      ),
-                    ),
-                  ),
-                ),
-              ),
-            ),
-          ),
-        ),
-      )
+  code-numbers c =
+      let by-size = code-sizes code c in
+      let bytes = code-bytes code c in
+      let others : List ℕ = 2 ∷ 3 ∷ 8 ∷ 9 ∷ [] in
+      let table = decodeTable code settings frame lent in
+      let on-bytes : Among others (drop 9 table) = (inl (bytes .0), (inl (bytes .1 .0), (inl (bytes .1 .1 .0), (inr tt, (inr tt, tt))))) in
+      let on-rest : Among others (drop 4 table) = (inr tt, (inr tt, (inr tt, (inr tt, (inr tt, on-bytes))))) in
+      refusal-among others table (inl (by-size .0), (inr tt, (inr tt, (inr tt, on-rest))))

@@ -10,7 +10,7 @@ use Rattle.refusal.specs.Tests.{outside, anyOutside, anyTo, Within}
 use Rattle.refusal.specs.Rows.{lengthRow, qcRow}
 use Rattle.vector.specs.Vector.{vectorAt}
 use Rattle.vector.specs.Frame.{IsFrame}
-use Rattle.polar_code.specs.Code.{layersRow, mapRow, emptyRow, coefsRow, IsCode}
+use Rattle.polar_code.specs.Code.{Code, codeSizes, codeTable, IsCode}
 
 -- no number of the list is 0
 unfoldable pub noZero : List ℕ → Bool
@@ -42,34 +42,55 @@ zerosRow places frame = (9, anyTo places (λ i. noZero (vectorAt frame i)))
 abbrev pub penaltyTable : (most : ℕ) → List ℕ → List Row
 penaltyTable most frame = aboveRow most frame ∷ zerosRow (length frame / 64) frame ∷ []
 
--- the rows of document 01's table that `decode` has the input for, in its order: first those on n and the lengths
-abbrev pub sizeTable : (n : ℕ) (map cs frame work symbols report : List ℕ) → List Row
-sizeTable n map cs frame work symbols report =
-    layersRow n
-    ∷ lengthRow (length map) (2 ^ n)
-    ∷ lengthRow (length cs) (n * (2 ^ n / 2))
-    ∷ lengthRow (length frame) (64 * 2 ^ n)
-    ∷ lengthRow (length work) (65 * 2 ^ n)
-    ∷ lengthRow (length symbols) (2 ^ n)
-    ∷ lengthRow (length report) (64 * 2 ^ n)
+-- what a caller of `decode` sets beside the code: the precisions Qc and Qm
+pub record Settings : Type 0 where
+  pub qc : ℕ
+  pub qm : ℕ
+
+-- those precisions
+abbrev pub settingsOf : (qc qm : ℕ) → Settings
+settingsOf qc qm = record { qc = qc; qm = qm }
+
+-- the buffers that a caller of `decode` lends to be written
+pub record Lent : Type 0 where
+  pub work : List ℕ
+  pub symbols : List ℕ
+  pub report : List ℕ
+
+-- those buffers
+abbrev pub lentOf : (work symbols report : List ℕ) → Lent
+lentOf work symbols report = record { work = work; symbols = symbols; report = report }
+
+-- the rows on the lengths of the frame and of the buffers, for this many places
+abbrev pub bufferRows : (places : ℕ) (frame : List ℕ) → Lent → List Row
+bufferRows places frame lent =
+    lengthRow (length frame) (64 * places)
+    ∷ lengthRow (length (lent .work)) (65 * places)
+    ∷ lengthRow (length (lent .symbols)) places
+    ∷ lengthRow (length (lent .report)) (64 * places)
     ∷ []
+
+-- the rows of document 01's table that `decode` has the input for, in its order: first those on n and the lengths
+abbrev pub sizeTable : Code → (frame : List ℕ) → Lent → List Row
+sizeTable code frame lent = codeSizes code ++ bufferRows (2 ^ code .n) frame lent
+
+-- the rows on the precisions and on the code's bytes
+abbrev pub codeRows : (map cs : List ℕ) → Settings → List Row
+codeRows map cs settings = qcRow (settings .qc) ∷ qmRow (settings .qc) (settings .qm) ∷ codeTable map cs
+
+-- the rows after these, for this largest penalty and this many vectors
+abbrev pub frameRows : (most places : ℕ) (frame : List ℕ) → List Row
+frameRows most places frame = aboveRow most frame ∷ zerosRow places frame ∷ []
 
 -- then those on the precisions and on what the slices hold, the frame having this many vectors
-abbrev pub contentTable : (places : ℕ) (map cs : List ℕ) (qc qm : ℕ) (frame : List ℕ) → List Row
-contentTable places map cs qc qm frame =
-    qcRow qc
-    ∷ qmRow qc qm
-    ∷ mapRow map
-    ∷ emptyRow map
-    ∷ coefsRow cs
-    ∷ llrsRow qc frame
-    ∷ zerosRow places frame
-    ∷ []
+abbrev pub contentTable : (places : ℕ) (map cs : List ℕ) → Settings → (frame : List ℕ) → List Row
+contentTable places map cs settings frame =
+    codeRows map cs settings ++ frameRows (2 ^ settings .qc - 1) places frame
 
-module _ (n : ℕ) (map cs : List ℕ) (qc qm : ℕ) (frame work symbols report : List ℕ) where
+module _ (code : Code) (settings : Settings) (frame : List ℕ) (lent : Lent) where
   -- all rows
   abbrev pub decodeTable : List Row
-  decodeTable = sizeTable n map cs frame work symbols report ++ contentTable (2 ^ n) map cs qc qm frame
+  decodeTable = sizeTable code frame lent ++ contentTable (2 ^ code .n) (code .map) (code .coefs) settings frame
 
   -- the number of the refusal, 0 where the call is accepted
   unfoldable pub decodeRefusal : ℕ
@@ -77,11 +98,11 @@ module _ (n : ℕ) (map cs : List ℕ) (qc qm : ℕ) (frame work symbols report 
 
   -- an input that no row of that table fits
   pub record Decodable : Type 0 where
-    pub code : IsCode n map cs
-    pub frame-long : length frame ≡ 64 * 2 ^ n
-    pub work-long : length work ≡ 65 * 2 ^ n
-    pub symbols-long : length symbols ≡ 2 ^ n
-    pub report-long : length report ≡ 64 * 2 ^ n
-    pub channel-precision : Within 1 5 qc
-    pub internal-precision : Within qc 13 qm
-    pub is-frame : IsFrame qc frame
+    pub is-code : IsCode code
+    pub frame-long : length frame ≡ 64 * 2 ^ code .n
+    pub work-long : length (lent .work) ≡ 65 * 2 ^ code .n
+    pub symbols-long : length (lent .symbols) ≡ 2 ^ code .n
+    pub report-long : length (lent .report) ≡ 64 * 2 ^ code .n
+    pub channel-precision : Within 1 5 (settings .qc)
+    pub internal-precision : Within (settings .qc) 13 (settings .qm)
+    pub is-frame : IsFrame (settings .qc) frame

@@ -1,4 +1,5 @@
-// The refusals of the decoder: by which number of document 01's table `decode` refuses; with those of a frame's penalties, which a reader of frames gives too.
+// The refusals of the decoder: by which number of document 01's table `decode` refuses; with those of a frame's
+// penalties, which a reader of frames gives too.
 mod refusals;
 
 pub use refusals::decode_refusal;

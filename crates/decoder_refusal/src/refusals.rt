@@ -5,7 +5,9 @@ ghost use lib.ListN.{length};
 ghost use Rattle.refusal.specs.Table.{refusalOf};
 ghost use Rattle.refusal.specs.Tests.{anyOutside, anyTo};
 ghost use Rattle.vector.specs.Vector.{vectorAt};
-ghost use Rattle.decoder_refusal.specs.Refusals.{noZero, greatest, penaltyTable, sizeTable, contentTable, decodeRefusal};
+ghost use Rattle.polar_code.specs.Code.{codeOf};
+ghost use Rattle.decoder_refusal.specs.Refusals.{noZero, greatest, penaltyTable};
+ghost use Rattle.decoder_refusal.specs.Refusals.{settingsOf, lentOf, sizeTable, contentTable, decodeRefusal};
 
 // The greatest number of the frame, 0 where it has none.
 fn greatest(frame: &[u16]) -> u16
@@ -46,17 +48,15 @@ fn any_without_zero(frame: &[u16]) -> bool
     false
 }
 
-// The number by which a frame's penalties are refused, for any slice: 8 where one is above `most`, else 9 where the 64 of one symbol hold no zero,
-// and 0 where neither fits. Numbers after the last whole vector of 64 count for 8 alone.
+// The number by which a frame's penalties are refused, for any slice: 8 where one is above `most`, else 9 where the 64
+// of one symbol hold no zero, and 0 where neither fits. Numbers after the last whole vector of 64 count for 8 alone.
 pub fn frame_refusal(frame: &[u16], most: u16) -> u8
     ensures { λ r. ⌜ r ≡ refusalOf (penaltyTable most (now (frame .entry))) ⌝ }
 {
     let above = any_above(frame, most);
     let without_zero = any_without_zero(frame);
-    if above {
-        return 8;
-    }
-    if without_zero { 9 } else { 0 }
+    let r = refusal::first(0, 8, above);
+    refusal::first(r, 9, without_zero)
 }
 
 // The refusal by n and the lengths, 0 where none of them is wrong.
@@ -69,54 +69,30 @@ fn size_refusal(
     symbols: &[u8],
     report: &[u16],
 ) -> u8
-    ensures { λ r. ⌜ r ≡ refusalOf (sizeTable n (now (map .entry)) (now (coefs .entry)) (now (frame .entry)) (now (work .entry)) (now (symbols .entry)) (now (report .entry))) ⌝ }
+    ensures { λ r. ⌜ r ≡ refusalOf (sizeTable (codeOf n (now (map .entry)) (now (coefs .entry))) (now (frame .entry))
+        (lentOf (now (work .entry)) (now (symbols .entry)) (now (report .entry)))) ⌝ }
 {
-    if n < 1 {
-        return 1;
-    }
-    if 8 < n {
-        return 1;
-    }
-    let size: usize = 1 << n;
-    if map.len() != size {
-        return 2;
-    }
-    if coefs.len() != n * (size / 2) {
-        return 2;
-    }
-    if frame.len() != 64 * size {
-        return 2;
-    }
-    if work.len() != 65 * size {
-        return 2;
-    }
-    if symbols.len() != size {
-        return 2;
-    }
-    if report.len() != 64 * size {
-        return 2;
-    }
-    0
+    let size = polar_code::place_count(n);
+    let r = polar_code::size_refusal(n, map, coefs);
+    let r = refusal::first(r, 2, frame.len() != 64 * size);
+    let r = refusal::first(r, 2, work.len() != 65 * size);
+    let r = refusal::first(r, 2, symbols.len() != size);
+    refusal::first(r, 2, report.len() != 64 * size)
 }
 
-// The refusal by the precisions and by what the map, the coefficients and the frame hold, 0 where none of them is wrong.
+// The refusal by the precisions and by what the map, the coefficients and the frame hold, 0 where none of them is
+// wrong.
 fn content_refusal(map: &[u8], coefs: &[u8], qc: u32, qm: u32, frame: &[u16]) -> u8
-    ensures { λ r. ⌜ r ≡ refusalOf (contentTable (length (now (frame .entry)) / 64) (now (map .entry)) (now (coefs .entry)) qc qm (now (frame .entry))) ⌝ }
+    ensures { λ r. ⌜ r ≡ refusalOf (contentTable (length (now (frame .entry)) / 64) (now (map .entry))
+        (now (coefs .entry)) (settingsOf qc qm) (now (frame .entry))) ⌝ }
 {
-    if refusal::is_outside(qc, 1, 5) {
-        return 3;
-    }
-    if refusal::is_outside(qm, qc, 13) {
-        return 3;
-    }
-    let by_code = polar_code::code_refusal(map, coefs);
-    if by_code != 0 {
-        return by_code;
-    }
-    frame_refusal(frame, vector::largest(qc))
+    let r = refusal::first(0, 3, refusal::is_outside(qc, 1, 5));
+    let r = refusal::first(r, 3, refusal::is_outside(qm, qc, 13));
+    let r = refusal::or_else(r, polar_code::code_refusal(map, coefs));
+    refusal::or_else(r, frame_refusal(frame, vector::largest(qc)))
 }
 
-// The number by which `decode` refuses, 0 where it takes its input: the first test that fits, in document 01's order.
+// The number by which `decode` refuses, 0 where it accepts its input: the first test that fits, in document 01's order.
 pub fn decode_refusal(
     n: usize,
     map: &[u8],
@@ -128,7 +104,8 @@ pub fn decode_refusal(
     symbols: &[u8],
     report: &[u16],
 ) -> u8
-    ensures { λ r. ⌜ r ≡ decodeRefusal n (now (map .entry)) (now (coefs .entry)) qc qm (now (frame .entry)) (now (work .entry)) (now (symbols .entry)) (now (report .entry)) ⌝ }
+    ensures { λ r. ⌜ r ≡ decodeRefusal (codeOf n (now (map .entry)) (now (coefs .entry))) (settingsOf qc qm)
+        (now (frame .entry)) (lentOf (now (work .entry)) (now (symbols .entry)) (now (report .entry))) ⌝ }
 {
     let refused = size_refusal(n, map, coefs, frame, work, symbols, report);
     if refused != 0 {

@@ -1,4 +1,4 @@
--- What it means that `demap` takes its input, and what it then hands its part.
+-- What it means that `demap` accepts its input, and what it then hands its part.
 use mathlib.Core.Path.{_≡_}
 use mathlib.Core.List.{List}
 use Prim.Native.Nat.{ℕ, _/_, _%_}
@@ -7,7 +7,7 @@ use lib.Dec.{lit<}
 use lib.IntN.{ℤ}
 use lib.ListN.{length}
 use Rattle.refusal.specs.Table.{Numbered}
-use Rattle.refusal.proofs.Laws.{taken-none, none-taken}
+use Rattle.refusal.proofs.Laws.{accepted-none, none-accepted}
 use Rattle.refusal.proofs.Within.{inside-within, within-inside, false-equal, equal-false}
 use Rattle.ccsk.specs.Chips.{turned}
 use Rattle.demapper.specs.Demap.{demapTable, demapRefusal, Demappable}
@@ -18,11 +18,11 @@ module _ (base top bottom qc : ℕ) (samples : List ℤ) (buffer : List ℕ) whe
   numbered : Numbered (demapTable base top bottom qc samples buffer)
   numbered = (lit< tt, (lit< tt, (lit< tt, (lit< tt, (lit< tt, (lit< tt, (lit< tt, tt)))))))
 
-  -- taken exactly when no row fits
-  pub taken : demapRefusal base top bottom qc samples buffer ≡ 0 → Demappable base top bottom qc samples buffer
+  -- accepted exactly when no row fits
+  pub accepted : demapRefusal base top bottom qc samples buffer ≡ 0 → Demappable base top bottom qc samples buffer
   unfolding demapRefusal
-  taken e =
-      let f = taken-none (demapTable base top bottom qc samples buffer) numbered e in
+  accepted e =
+      let f = accepted-none (demapTable base top bottom qc samples buffer) numbered e in
       let g = f .1 .1 .1 in
       record {
         whole = false-equal (length samples % 64) 0 (f .0);
@@ -35,10 +35,10 @@ module _ (base top bottom qc : ℕ) (samples : List ℤ) (buffer : List ℕ) whe
       }
 
   -- and the other way round
-  pub takes : Demappable base top bottom qc samples buffer → demapRefusal base top bottom qc samples buffer ≡ 0
+  pub accepts : Demappable base top bottom qc samples buffer → demapRefusal base top bottom qc samples buffer ≡ 0
   unfolding demapRefusal
-  takes t =
-      none-taken (demapTable base top bottom qc samples buffer) (
+  accepts t =
+      none-accepted (demapTable base top bottom qc samples buffer) (
         equal-false (length samples % 64) 0 (t .whole),
         (
           within-inside 1 256 (length samples / 64) (t .count),

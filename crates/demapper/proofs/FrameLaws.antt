@@ -13,10 +13,10 @@ use Rattle.vector.proofs.Laws.{length-joined, joined-part}
 use Rattle.vector.proofs.SliceLaws.{vector-entry, joined-by, stored-long, stored-is, stored-other}
 use Rattle.demapper.specs.Samples.{llrs}
 use Rattle.demapper.specs.Demap.{frameOf}
-use Rattle.ccsk.specs.Part.{placeLlrs}
+use Rattle.vector.specs.Part.{placeLlrs}
 use Rattle.demapper.specs.Parts.{chipsTwice, llrsBy}
 use Rattle.demapper.proofs.LlrLaws.{length-llrs, by-base, llr-small, llr-zero}
-use Rattle.ccsk.proofs.PartLaws.{there, place-part}
+use Rattle.vector.proofs.PartLaws.{there, place-part}
 
 module _ (base top bottom qc : ℕ) (samples : List ℤ) where
   -- the 64 penalties of symbol i

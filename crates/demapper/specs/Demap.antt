@@ -47,7 +47,7 @@ pub record Demappable (base top bottom qc : ℕ) (samples : List ℤ) (buffer : 
   pub gain-top : Within 1 255 top
   pub gain-bottom : Within 1 255 bottom
 
--- the number that `demap` returns, 0 where it takes its input
+-- the number that `demap` returns, 0 where it accepts its input
 unfoldable pub demapRefusal : (base top bottom qc : ℕ) → List ℤ → List ℕ → ℕ
 demapRefusal base top bottom qc samples buffer = refusalOf (demapTable base top bottom qc samples buffer)
 

@@ -19,9 +19,11 @@ sentSample amplitude chip = cond (eqb chip 0) (pos amplitude) (negℤ (pos ampli
 unfoldable pub sentSymbol : (base amplitude : ℕ) → ℕ → List ℤ
 sentSymbol base amplitude s = tabulate 64 (λ k. sentSample amplitude (symbolChip base s k))
 
--- the samples of a list of numbers that symbols are sent as, 64 to a number: for one amplitude A, +A at each chip 0 and −A at each chip 1
+-- the samples of a list of numbers that symbols are sent as, 64 to a number: for one amplitude A, +A at each chip 0 and
+-- −A at each chip 1
 unfoldable pub numberSamples : (amplitude : ℕ) → List ℕ → List ℤ
-numberSamples amplitude numbers = joined (length numbers) (λ i. tabulate 64 (λ k. sentSample amplitude (chip (getD numbers i 0) k)))
+numberSamples amplitude numbers =
+    joined (length numbers) (λ i. tabulate 64 (λ k. sentSample amplitude (chip (getD numbers i 0) k)))
 
 -- the samples of a list of symbols
 unfoldable pub sentSamples : (base amplitude : ℕ) → List ℕ → List ℤ
@@ -31,18 +33,20 @@ sentSamples base amplitude symbols = joined (length symbols) (λ i. sentSymbol b
 unfoldable pub sentLlr : (base amplitude top bottom qc : ℕ) → (s v : ℕ) → ℕ
 sentLlr base amplitude top bottom qc s v = getD (llrs base top bottom qc (sentSymbol base amplitude s)) v 0
 
--- what is weighed without noise: 0 at the symbol sent, and at any other value the floor of (amplitude × number of differing chips ×
--- top / bottom), capped
+-- what is weighed without noise: 0 at the symbol sent, and at any other value the floor of (amplitude × number of
+-- differing chips × top / bottom), capped
 pub record Weighed (base amplitude top bottom qc s : ℕ) : Type 0 where
   pub sent : sentLlr base amplitude top bottom qc s s ≡ 0
-  pub other : (v : ℕ) → v < 64 → sentLlr base amplitude top bottom qc s v ≡ min (amplitude * differing base s v * top / bottom) (2 ^ qc - 1)
+  pub other : (v : ℕ) → v < 64
+      → sentLlr base amplitude top bottom qc s v ≡ min (amplitude * differing base s v * top / bottom) (2 ^ qc - 1)
 
--- the premise of the noiseless statement at the symbol s: each wrong symbol's penalty is still at least 1 after rounding
+-- the premise of the noiseless statement at the symbol s: each wrong symbol's penalty is still at least 1 after
+-- rounding
 abbrev pub Premise : (base amplitude top bottom qc : ℕ) → ℕ → Type 0
 Premise base amplitude top bottom qc s = (v : ℕ) → v < 64 → (v ≡ s → ⊥) → 1 ≤ sentLlr base amplitude top bottom qc s v
 
--- the same as a condition on base, amplitude and gain alone: for each shift d from 1 to 63 the gain times the amplitude times the number of chips in
--- which it differs from shift 0 is at least 1
+-- the same as a condition on base, amplitude and gain alone: for each shift d from 1 to 63 the gain times the amplitude
+-- times the number of chips in which it differs from shift 0 is at least 1
 abbrev pub Apart : (base amplitude top bottom : ℕ) → Type 0
 Apart base amplitude top bottom = (d : ℕ) → Within 1 63 d → bottom ≤ amplitude * differing base 0 d * top
 

@@ -1,5 +1,5 @@
--- What the demapper's parts are given and leave. Not for a reader of the promises: laws in proofs/ tie these to the definitions of
--- document 01's rules.
+-- What the demapper's parts are given and leave. Not for a reader of the promises: laws in proofs/ tie these to the
+-- definitions of document 01's rules.
 use Prim.Native.Nat.{ℕ, _+_, _*_, _%_, _≤_, _<_}
 use mathlib.Core.Path.{_≡_}
 use mathlib.Core.List.{List}
@@ -16,7 +16,8 @@ chipsTwice base = tabulate 128 (λ j. chip base (j % 64))
 
 -- what sample k adds to the raw penalty of s, by a list of chips
 unfoldable pub addedAt : List ℕ → List ℤ → (s k : ℕ) → ℕ
-addedAt chips samples s k = added (getD chips (k + s) 0) (hardChip (getD samples k (pos 0))) (magnitude (getD samples k (pos 0)))
+addedAt chips samples s k =
+    added (getD chips (k + s) 0) (hardChip (getD samples k (pos 0))) (magnitude (getD samples k (pos 0)))
 
 -- the 64 raw penalties of the first k samples
 unfoldable pub rawTo : List ℕ → List ℤ → ℕ → List ℕ
@@ -32,7 +33,7 @@ pub record OneSample (sums : List ℕ) (k size : ℕ) : Type 0 where
   pub small : size ≤ 128
   pub sums-small : (s : ℕ) → s < 64 → getD sums s 0 ≤ 128 * k
 
--- a gain and a precision that are taken
+-- a gain and a precision that are accepted
 pub record Scale (top bottom qc : ℕ) : Type 0 where
   pub gain-top : Within 1 255 top
   pub gain-bottom : Within 1 255 bottom
@@ -42,7 +43,8 @@ pub record Scale (top bottom qc : ℕ) : Type 0 where
 abbrev pub llrsBy : List ℕ → (top bottom qc : ℕ) → List ℤ → List ℕ
 llrsBy chips top bottom qc samples = quantisedLlrs top bottom qc (lessLeast (rawTo chips samples 64))
 
--- what the demapper is given for all symbols: whole vectors of samples, room for as many penalties, and a scale that is taken
+-- what the demapper is given for all symbols: whole vectors of samples, room for as many penalties, and a scale that is
+-- accepted
 pub record Symbols (top bottom qc : ℕ) (samples : List ℤ) (buffer : List ℕ) : Type 0 where
   pub whole : length samples % 64 ≡ 0
   pub room : length buffer ≡ length samples

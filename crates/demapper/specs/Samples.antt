@@ -1,4 +1,5 @@
--- From 64 samples to the 64 penalties of a symbol (document 01: weighing). Samples are signed bytes; a penalty is an llr here.
+-- From 64 samples to the 64 penalties of a symbol (document 01: weighing). Samples are signed bytes; a penalty is an
+-- llr here.
 use Prim.Native.Nat.{ℕ, _*_, _/_, _-_, _^_, min}
 use mathlib.Core.Bool.{cond}
 use mathlib.Core.List.{List}
@@ -17,14 +18,15 @@ hardChip sample = cond (ltZ sample (pos 0)) 1 0
 unfoldable pub magnitude : ℤ → ℕ
 magnitude sample = natAbs sample
 
--- what a sample with this hard chip and this magnitude adds to the raw penalty of a symbol with this chip there: its magnitude where the
--- two chips differ
+-- what a sample with this hard chip and this magnitude adds to the raw penalty of a symbol with this chip there: its
+-- magnitude where the two chips differ
 unfoldable pub added : ℕ → ℕ → ℕ → ℕ
 added chip hard size = cond (eqb hard chip) 0 size
 
 -- the raw penalty of the symbol s: the sum of the magnitudes of the samples whose hard chip differs from the chip of s
 unfoldable pub raw : ℕ → List ℤ → ℕ → ℕ
-raw base samples s = sumTo 64 (λ k. added (symbolChip base s k) (hardChip (getD samples k (pos 0))) (magnitude (getD samples k (pos 0))))
+raw base samples s =
+    sumTo 64 (λ k. added (symbolChip base s k) (hardChip (getD samples k (pos 0))) (magnitude (getD samples k (pos 0))))
 
 -- the 64 raw penalties, in order of value
 unfoldable pub rawLlrs : ℕ → List ℤ → List ℕ
@@ -38,6 +40,7 @@ quantised top bottom qc x = min (x * top / bottom) (2 ^ qc - 1)
 unfoldable pub quantisedLlrs : (top bottom qc : ℕ) → List ℕ → List ℕ
 quantisedLlrs top bottom qc v = tabulate 64 (λ s. quantised top bottom qc (getD v s 0))
 
--- the 64 penalties of a symbol from its 64 samples: the raw ones, less the least of them, times the gain, rounded down, capped
+-- the 64 penalties of a symbol from its 64 samples: the raw ones, less the least of them, times the gain, rounded down,
+-- capped
 unfoldable pub llrs : (base top bottom qc : ℕ) → List ℤ → List ℕ
 llrs base top bottom qc samples = quantisedLlrs top bottom qc (lessLeast (rawLlrs base samples))

@@ -6,36 +6,17 @@ ghost use mathlib.Core.Path.{_≡_};
 ghost use Rattle.demapper.specs.Demap.{frameOf, demapRefusal, Demapped};
 ghost use Rattle.demapper.specs.Parts.{Symbols};
 
-// The number by which `demap` refuses, 0 where it takes its input: the first test that fits, in document 01's order.
+// The number by which `demap` refuses, 0 where it accepts its input: the first test that fits, in document 01's order.
 fn demap_refusal(base: u64, samples: &[i8], top: u32, bottom: u32, qc: u32, llrs: &[u16]) -> u8
     ensures { λ r. ⌜ r ≡ demapRefusal base top bottom qc (now (samples .entry)) (now (llrs .entry)) ⌝ }
 {
-    let count = samples.len() / 64;
-    if samples.len() % 64 != 0 {
-        return 2;
-    }
-    if count < 1 {
-        return 2;
-    }
-    if 256 < count {
-        return 2;
-    }
-    if llrs.len() != samples.len() {
-        return 2;
-    }
-    if refusal::is_outside(qc, 1, 5) {
-        return 3;
-    }
-    if turned(base, 32) == base {
-        return 10;
-    }
-    if refusal::is_outside(top, 1, 255) {
-        return 11;
-    }
-    if refusal::is_outside(bottom, 1, 255) {
-        return 11;
-    }
-    0
+    let r = refusal::first(0, 2, samples.len() % 64 != 0);
+    let r = refusal::first(r, 2, refusal::is_size_outside(samples.len() / 64, 1, 256));
+    let r = refusal::first(r, 2, llrs.len() != samples.len());
+    let r = refusal::first(r, 3, refusal::is_outside(qc, 1, 5));
+    let r = refusal::first(r, 10, turned(base, 32) == base);
+    let r = refusal::first(r, 11, refusal::is_outside(top, 1, 255));
+    refusal::first(r, 11, refusal::is_outside(bottom, 1, 255))
 }
 
 // Writes the penalties of every symbol, 64 for each.
@@ -55,9 +36,10 @@ fn write_llrs(base: u64, samples: &[i8], top: u32, bottom: u32, qc: u32, llrs: &
     }
 }
 
-// Weighs samples, 64 to a symbol: for each symbol the 64 penalties of its values. Each is the sum of the magnitudes of the samples whose
-// hard chip differs from the value's chip, less the least of the 64, times the gain top over bottom, rounded down, capped at 2^Qc - 1.
-// Returns 0 and the penalties in the buffer lent for them; or the lowest refusal of 2, 3, 10 and 11 that fits, and the buffer as it came.
+// Weighs samples, 64 to a symbol: for each symbol the 64 penalties of its values. Each is the sum of the magnitudes of
+// the samples whose hard chip differs from the value's chip, less the least of the 64, times the gain top over bottom,
+// rounded down, capped at 2^Qc - 1. Returns 0 and the penalties in the buffer lent for them; or the lowest refusal of
+// 2, 3, 10 and 11 that fits, and the buffer as it came.
 pub fn demap(base: u64, samples: &[i8], top: u32, bottom: u32, qc: u32, llrs: &mut [u16]) -> u8
     ensures { λ r. ⌜ Demapped base top bottom qc (now (samples .entry)) (now (llrs .entry)) (now (llrs .exit)) r ⌝ }
 {

@@ -24,7 +24,8 @@ fn magnitude(sample: i8) -> u16
     }
 }
 
-// What a sample adds to the raw penalty of a symbol with this chip there: its size where its hard chip is the other one.
+// What a sample adds to the raw penalty of a symbol with this chip there: its size where its hard chip is the other
+// one.
 fn added(chip: u16, hard: u16, size: u16) -> u16
     ensures { λ r. ⌜ (r ≡ added chip hard size) × (r ≤ size) ⌝ }
 {

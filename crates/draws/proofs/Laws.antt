@@ -1,5 +1,5 @@
 -- The laws of stores, of filled and drawn bytes, of states and of sizes.
-use mathlib.Core.Path.{_≡_, refl, sym, ap, _∙_}
+use mathlib.Core.Path.{_≡_, refl, sym, ap, ap₂, _∙_}
 use mathlib.Core.List.{List, [], _∷_}
 use Prim.Native.Nat.{ℕ, zero, suc, _+_, _*_, _/_, _%_, _^_, _≤_, _<_}
 use native.Mathlib.Decide.{decLt}
@@ -228,7 +228,17 @@ kernels-few n =
 
 -- ---- sums
 
--- one number more
-pub sum-more : (s : List ℕ) (n : ℕ) → sumWith (sumTo s n) (getD s n 0) ≡ sumTo s (n + 1)
-unfolding sumTo
-sum-more s n = rw add-one
+module _ (s : List ℕ) where
+  -- before the first number
+  pub sum-none : 1 ≡ sumTo s 0
+  unfolding sumTo
+  sum-none = refl
+
+  -- one number more
+  pub sum-more : (n : ℕ) {sum x r : ℕ} → sum ≡ sumTo s n → x ≡ getD s n 0 → r ≡ sumWith sum x → r ≡ sumTo s (n + 1)
+  unfolding sumTo
+  sum-more n e f g = g ∙ ap₂ sumWith e f ∙ rw add-one
+
+  -- all of them
+  pub sum-all : (n : ℕ) {sum : ℕ} → n ≡ length s → sum ≡ sumTo s n → sum ≡ sumTo s (length s)
+  sum-all n e f = f ∙ ap (sumTo s) e

@@ -14,8 +14,9 @@ filled s (suc n) x = set (filled s n x) n x
 unfoldable pub drawnByte : (low range state : ℕ) → ℕ
 drawnByte low range state = (low % 256 + drawnIn state range % 256) % 256
 
--- what is left after n bytes were drawn into a slice from a state on: the length is kept; byte i of them is the one drawn in the state after i + 1 steps,
--- and below low + range; the others are as they were; and the state is that after n steps
+-- what is left after n bytes were drawn into a slice from a state on: the length is kept; byte i of them is the one
+-- drawn in the state after i + 1 steps, and below low + range; the others are as they were; and the state is that after
+-- n steps
 pub record DrawnBytes (before : List ℕ) (state low range n : ℕ) (left : List ℕ) (last : ℕ) : Type 0 where
   pub long : length left ≡ length before
   pub drawn : (i : ℕ) → i < n → i < length before → getD left i 0 ≡ drawnByte low range (stateAfter (suc i) state)

@@ -13,10 +13,11 @@ layersFor n = cond (ltb n 1 || ltb 8 n) 2 n
 
 -- the state after a map of `size` places was drawn: the first draw says whether each place is drawn too
 unfoldable pub afterMap : (state size : ℕ) → ℕ
-afterMap state size = cond (ltb (drawnIn (stateAfter 1 state) 4) 2) (stateAfter 2 state) (stateAfter size (stateAfter 2 state))
+afterMap state size =
+    cond (ltb (drawnIn (stateAfter 1 state) 4) 2) (stateAfter 2 state) (stateAfter size (stateAfter 2 state))
 
--- what is left of a map of `size` places: its length is kept, and where there were zeros each of its bytes is 0 or 1, and the place drawn in the state
--- after two steps is a message place; and the state after that
+-- what is left of a map of `size` places: its length is kept, and where there were zeros each of its bytes is 0 or 1,
+-- and the place drawn in the state after two steps is a message place; and the state after that
 pub record DrawnMap (before : List ℕ) (state size : ℕ) (left : List ℕ) (last : ℕ) : Type 0 where
   pub long : length left ≡ length before
   pub small : ((i : ℕ) → getD before i 0 ≡ 0) → (i : ℕ) → getD left i 0 ≤ 1

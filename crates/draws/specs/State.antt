@@ -23,4 +23,5 @@ upper state = state / 65536
 -- a base drawn from a state: the upper 16 bits of the next four states, the first of them highest
 unfoldable pub baseFrom : ℕ → ℕ
 baseFrom state =
-    ((upper (stateAfter 1 state) * 65536 + upper (stateAfter 2 state)) * 65536 + upper (stateAfter 3 state)) * 65536 + upper (stateAfter 4 state)
+    ((upper (stateAfter 1 state) * 65536 + upper (stateAfter 2 state)) * 65536 + upper (stateAfter 3 state)) * 65536
+    + upper (stateAfter 4 state)

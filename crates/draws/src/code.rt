@@ -35,7 +35,8 @@ pub fn kernels(n: usize) -> usize
     layers(n) * (places(n) / 2)
 }
 
-// Draws a map of `size` places, where there were zeros, and returns the state after that: all message places, frozen places first, or any.
+// Draws a map of `size` places, where there were zeros, and returns the state after that: all message places, frozen
+// places first, or any.
 pub fn draw_map(state: u64, map: &mut [u8], size: usize) -> u64
     ensures { λ r. ⌜ DrawnMap (now (map .entry)) state size (now (map .exit)) r ⌝ }
 {

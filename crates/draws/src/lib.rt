@@ -1,5 +1,6 @@
-// Pseudo-random draws for test programs: a state and what is drawn in it, bytes that are drawn into a slice, parts of slices, the sizes and the map of
-// a code, a base, samples by their bits, and checksums. No function asks anything of its arguments.
+// Pseudo-random draws for test programs: a state and what is drawn in it, bytes that are drawn into a slice, parts of
+// slices, the sizes and the map of a code, a base, samples by their bits, and checksums. No function asks anything of
+// its arguments.
 mod bytes;
 mod code;
 mod parts;
@@ -23,5 +24,6 @@ pub use state::drawn;
 pub use state::drawn_base;
 pub use state::drawn_number;
 pub use state::step;
+pub use sums::byte_checksum;
 pub use sums::checksum;
 pub use sums::checksum_with;

@@ -29,3 +29,23 @@ pub fn checksum(s: &[u16]) -> u64
     }
     sum
 }
+
+// A byte as a number to sum up.
+fn wide_byte(x: u8) -> u64
+    ensures { λ r. ⌜ r ≡ x ⌝ }
+{
+    x as u64
+}
+
+// The same checksum of bytes.
+pub fn byte_checksum(s: &[u8]) -> u64
+    ensures { λ r. ⌜ r ≡ sumTo (now (s .entry)) (length (now (s .entry))) ⌝ }
+{
+    let mut sum: u64 = 1;
+    let mut i: usize = 0;
+    while i < s.len() {
+        sum = checksum_with(sum, wide_byte(s[i]));
+        i += 1;
+    }
+    sum
+}

@@ -5,9 +5,16 @@ use crate::print::print_refusal;
 use decoder::Answer;
 ghost use mathlib.Core.Path.{_≡_};
 ghost use Rattle.decoder.specs.Decode.{returned};
-ghost use Rattle.polar_code.specs.Code.{IsCode};
+ghost use Rattle.polar_code.specs.Code.{codeOf, IsCode};
+ghost use Rattle.decoder_refusal.specs.Refusals.{lentOf};
 ghost use Rattle.files.specs.Printed.{FrameNumber};
-ghost use Rattle.files.specs.Parts.{FrameRoom, Given, Taken, Roomy, Lent};
+ghost use Rattle.files.specs.Parts.{FrameRoom, Given, Accepted, Roomy, Decoding};
+
+// The penalties of the longest frame, and of its report: 64 for each of 256 places.
+const LONGEST_FRAME: usize = 16384;
+
+// The numbers of the longest work buffer: 65 for each of 256 places.
+const LONGEST_WORK: usize = 16640;
 
 // The number of an answer of the decoder: that of the refusal, 0 for a frame that was decoded.
 fn refused_by(answer: Answer) -> u8
@@ -19,8 +26,8 @@ fn refused_by(answer: Answer) -> u8
     }
 }
 
-// Decodes at Qc = 5 and Qm = 13 and prints the listing, and returns 0. A refusal would be printed and returned; it is proved that there is none, since the
-// code and the frame were taken.
+// Decodes at Qc = 5 and Qm = 13 and prints the listing, and returns 0. A refusal would be printed and returned; it is
+// proved that there is none, since the code and the frame were accepted.
 fn decode_and_print(
     n: usize,
     map: &[u8],
@@ -30,7 +37,8 @@ fn decode_and_print(
     symbols: &mut [u8],
     report: &mut [u16],
 ) -> u8
-    requires { ⌜ Lent n (now map) (now coefs) (now frame) (now work) (now symbols) (now report) ⌝ }
+    requires { ⌜ Decoding (codeOf n (now map) (now coefs)) (now frame)
+        (lentOf (now work) (now symbols) (now report)) ⌝ }
     ensures { λ r. ⌜ r ≡ 0 ⌝ }
 {
     let answer = decoder::decode(n, map, coefs, 5, 13, frame, work, symbols, report);
@@ -51,7 +59,8 @@ fn decode_with_parts(
     symbols: &mut [u8],
     report: &mut [u16],
 ) -> u8
-    requires { ⌜ Roomy n (now map) (now coefs) (now frame) (now work) (now symbols) (now report) ⌝ }
+    requires { ⌜ Roomy (codeOf n (now map) (now coefs)) (now frame)
+        (lentOf (now work) (now symbols) (now report)) ⌝ }
     ensures { λ r. ⌜ r ≡ 0 ⌝ }
 {
     let size = map.len();
@@ -70,18 +79,18 @@ fn decode_with_parts(
 
 // Decodes and prints, with buffers of its own.
 fn decode_frame(n: usize, map: &[u8], coefs: &[u8], frame: &[u16]) -> u8
-    requires { ⌜ Taken n (now map) (now coefs) (now frame) ⌝ }
+    requires { ⌜ Accepted (codeOf n (now map) (now coefs)) (now frame) ⌝ }
     ensures { λ r. ⌜ r ≡ 0 ⌝ }
 {
-    let mut work = [0u16; 16640];
+    let mut work = [0u16; LONGEST_WORK];
     let mut symbols = [0u8; 256];
-    let mut report = [0u16; 16384];
+    let mut report = [0u16; LONGEST_FRAME];
     decode_with_parts(n, map, coefs, frame, &mut work, &mut symbols, &mut report)
 }
 
 // Reads frame.txt into the frame and decodes it. Returns 0 for a listing, or the number that was printed.
 fn read_and_decode(n: usize, map: &[u8], coefs: &[u8], frame: &mut [u16]) -> u8
-    requires { ⌜ Given n (now map) (now coefs) (now frame) ⌝ }
+    requires { ⌜ Given (codeOf n (now map) (now coefs)) (now frame) ⌝ }
     ensures { λ r. ⌜ FrameNumber r ⌝ }
 {
     let verdict = read_frame(frame);
@@ -93,7 +102,7 @@ fn read_and_decode(n: usize, map: &[u8], coefs: &[u8], frame: &mut [u16]) -> u8
 
 // Reads frame.txt into the start of a buffer that has room for the longest frame, and decodes it.
 fn run_with_part(n: usize, map: &[u8], coefs: &[u8], frame: &mut [u16]) -> u8
-    requires { ⌜ FrameRoom n (now map) (now coefs) (now frame) ⌝ }
+    requires { ⌜ FrameRoom (codeOf n (now map) (now coefs)) (now frame) ⌝ }
     ensures { λ r. ⌜ FrameNumber r ⌝ }
 {
     let frame_size = 64 * map.len();
@@ -102,9 +111,9 @@ fn run_with_part(n: usize, map: &[u8], coefs: &[u8], frame: &mut [u16]) -> u8
 
 // Reads frame.txt into a buffer of its own, and decodes it.
 pub(crate) fn run_frame(n: usize, map: &[u8], coefs: &[u8]) -> u8
-    requires { ⌜ IsCode n (now map) (now coefs) ⌝ }
+    requires { ⌜ IsCode (codeOf n (now map) (now coefs)) ⌝ }
     ensures { λ r. ⌜ FrameNumber r ⌝ }
 {
-    let mut frame = [0u16; 16384];
+    let mut frame = [0u16; LONGEST_FRAME];
     run_with_part(n, map, coefs, &mut frame)
 }

@@ -4,8 +4,9 @@ use crate::read::read_some;
 ghost use mathlib.Core.Path.{_≡_};
 ghost use Rattle.files.specs.Printed.{FrameNumber, Penalties};
 
-// Reads a line for each place of the frame, and then whether a byte is left, and feeds them to the steps of `sheet`, which say what the file is refused
-// by and leave the frame's numbers. Returns that refusal, 0 where the file is taken.
+// Reads a line for each place of the frame, and then whether a byte is left, and feeds them to the steps of
+// `frame_file`, which say what the file is refused by and leave the frame's numbers. Returns that refusal, 0 where the
+// file is accepted.
 fn feed_file(fd: i32, frame: &mut [u16]) -> u8
     ensures { λ r. ⌜ FrameNumber r ⌝ }
     ensures { λ r. ⌜ (r ≡ 0 → Penalties (now (frame .exit))) ⌝ }
@@ -25,7 +26,8 @@ fn feed_file(fd: i32, frame: &mut [u16]) -> u8
     frame_file::end_frame(verdict, left)
 }
 
-// Reads frame.txt into the frame, which has 64 numbers for each place of the code. Returns the refusal, 0 where the file is taken.
+// Reads frame.txt into the frame, which has 64 numbers for each place of the code. Returns the refusal, 0 where the
+// file is accepted.
 pub(crate) fn read_frame(frame: &mut [u16]) -> u8
     ensures { λ r. ⌜ FrameNumber r ⌝ }
     ensures { λ r. ⌜ (r ≡ 0 → Penalties (now (frame .exit))) ⌝ }

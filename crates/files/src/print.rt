@@ -19,7 +19,7 @@ pub(crate) fn print_listing(symbols: &[u8], report: &[u16], count: u32)
 {
     let mut place: usize = 0;
     while place < symbols.len() {
-        let llrs = ccsk::place_llrs(report, place);
+        let llrs = vector::place_llrs(report, place);
         let line = listing::place_line(place as u32, symbols[place], llrs);
         io::write_all(STDOUT_FILENO, &line);
         place += 1;

@@ -10,7 +10,7 @@ ghost use Rattle.sheet.specs.CodeSheet.{returned};
 ghost use Rattle.files.specs.Printed.{Printed, FrameNumber};
 ghost use Rattle.files.specs.Parts.{CodeRead};
 
-// The number of an answer of the sheet reader: that of the refusal, 0 for a sheet that was taken.
+// The number of an answer of the sheet reader: that of the refusal, 0 for a sheet that was accepted.
 fn refused_by(answer: Answer) -> u8
     ensures { λ r. ⌜ r ≡ returned answer .number ⌝ }
 {
@@ -40,9 +40,10 @@ fn run_code(n: usize, map: &[u8], coefs: &[u8]) -> u8
     run_frame(n, &map[..size], &coefs[..count])
 }
 
-// The program: reads code.txt, a code sheet, and frame.txt, a frame file for that code, decodes the frame at Qc = 5 and Qm = 13 and prints the
-// listing, or the number of the first refusal and nothing else. Returns 0 for a listing, or the number that was printed. No sheet that is
-// taken has more than 6,405 bytes, and the first 6,406 of a longer one get the same verdict as all of it.
+// The program: reads code.txt, a code sheet, and frame.txt, a frame file for that code, decodes the frame at Qc = 5 and
+// Qm = 13 and prints the listing, or the number of the first refusal and nothing else. Returns 0 for a listing, or the
+// number that was printed. No sheet that is accepted has more than 6,405 bytes, and the first 6,406 of a longer one get
+// the same verdict as all of it.
 pub fn run() -> u8
     ensures { λ r. ⌜ Printed r ⌝ }
 {

@@ -13,8 +13,9 @@ use lib.ListN.{length, take, drop, length-append, length-take, length-drop, drop
 use lib.Seq.{take-all, take-at, drop-append-add, drop-drop}
 use Rattle.refusal.specs.Table.{Row, refusalOf, OneOf, NoneFits}
 use Rattle.refusal.specs.Tests.{outside, anyOutside, anyTo, unequal}
-use Rattle.refusal.proofs.Laws.{taken-none, none-taken, first-refused, first-taken, refusal-has}
-use Rattle.refusal.proofs.Within.{true-false, or-left, or-right, none-within, equal-false, unequal-true}
+use Rattle.refusal.proofs.Laws.{accepted-none, none-accepted, first-refused, first-accepted}
+use Rattle.refusal.proofs.Among.{refusal-among, not-among}
+use Rattle.refusal.proofs.Within.{or-left, or-right, none-within, equal-false, unequal-true}
 use Rattle.refusal.proofs.AnyTo.{each-not, any-ext}
 use Rattle.vector.specs.Vector.{joined, vectorAt, AtMost, HasZero}
 use Rattle.vector.proofs.Laws.{length-joined, joined-part}
@@ -24,7 +25,7 @@ use Rattle.columns.proofs.LineLaws.{line-long}
 use Rattle.decoder_refusal.specs.Refusals.{noZero, llrsRow, zerosRow, penaltyTable}
 use Rattle.decoder_refusal.proofs.RefusalLaws.{some-zero}
 use Rattle.sheet.specs.FrameLine.{lineRow, lineLlrs, lineTable, lineRefusal, lineOutput, LineRead}
-use Rattle.sheet.proofs.LineLaws.{line-numbered, output-taken, length-llrs}
+use Rattle.sheet.proofs.LineLaws.{line-numbered, output-accepted, length-llrs}
 use Rattle.frame_file.specs.FrameFile.{frameLine, frameLlrs, frameTable, frameVerdict, fedTable, lineVerdict, triedTable, firstTried, endVerdict, LineFed, fedVerdict, fedFrame, Fed}
 
 -- ---- one line
@@ -39,17 +40,17 @@ module _ (bytes llrs : List ℕ) where
     }
 
     -- and for one that has its form
-    pub fed-taken : {penalties : ℕ} → line ≡ 0 → penalties ≡ refusalOf (penaltyTable 31 after) → r ≡ firstTried verdict penalties
+    pub fed-accepted : {penalties : ℕ} → line ≡ 0 → penalties ≡ refusalOf (penaltyTable 31 after) → r ≡ firstTried verdict penalties
         → LineFed verdict bytes llrs after r
     unfolding lineRefusal lineVerdict
-    fed-taken {penalties} z p e =
-        let taken = sym (read .answer) ∙ z in
-        let is = read .llrs-are ∙ output-taken bytes llrs taken in
+    fed-accepted {penalties} z p e =
+        let accepted = sym (read .answer) ∙ z in
+        let is = read .llrs-are ∙ output-accepted bytes llrs accepted in
         let q = p ∙ ap (λ (xs : List ℕ). refusalOf (penaltyTable 31 xs)) is
         ∙ ap (λ (k : ℕ). refusalOf ((8, anyOutside 0 31 (lineLlrs bytes)) ∷ zerosRow (k / 64) (lineLlrs bytes) ∷ [])) (length-llrs bytes llrs) in
         record {
           answer = e ∙ ap (firstTried verdict)
-              (first-taken (lineTable bytes llrs) (llrsRow 5 (lineLlrs bytes) ∷ zerosRow 1 (lineLlrs bytes) ∷ []) (line-numbered bytes llrs) taken q);
+              (first-accepted (lineTable bytes llrs) (llrsRow 5 (lineLlrs bytes) ∷ zerosRow 1 (lineLlrs bytes) ∷ []) (line-numbered bytes llrs) accepted q);
           llrs-are = read .llrs-are;
         }
 
@@ -187,17 +188,17 @@ module _ (bytes : List ℕ) where
         ∙ ap₂ (λ (s t : Bool). refusalOf (threeTests (anyTo places broken || left) s t)) (or-false (anyTo places large)) (or-false (anyTo places empty))
         ∙ sym file-tests
 
-    -- no line of a file that is taken is broken
-    lines-taken : frameVerdict places bytes ≡ 0 → (i : ℕ) → i < places → isLine 4 64 (lineAt i) ≡ true
+    -- no line of a file that is accepted is broken
+    lines-accepted : frameVerdict places bytes ≡ 0 → (i : ℕ) → i < places → isLine 4 64 (lineAt i) ≡ true
     unfolding frameVerdict frameLine
-    lines-taken e i l =
-        not-false (isLine 4 64 (lineAt i)) (each-not broken places (taken-none (frameTable places bytes) (lit< tt, (lit< tt, (lit< tt, (lit< tt, tt)))) e .1 .0) i l)
+    lines-accepted e i l =
+        not-false (isLine 4 64 (lineAt i)) (each-not broken places (accepted-none (frameTable places bytes) (lit< tt, (lit< tt, (lit< tt, (lit< tt, tt)))) e .1 .0) i l)
 
     module _ (frame : List ℕ) (long : length frame ≡ 64 * places) (e : frameVerdict places bytes ≡ 0) where
-      -- line i is taken, with an output of 64 numbers
+      -- line i is accepted, with an output of 64 numbers
       line-kept : (i : ℕ) → i < places → (llrs : List ℕ) → length llrs ≡ 64 → lineRefusal (lineAt i) llrs ≡ 0
       unfolding lineRefusal
-      line-kept i l llrs q = none-taken (lineTable (lineAt i) llrs) (equal-false (length llrs) 64 q, (ap not (lines-taken e i l), tt))
+      line-kept i l llrs q = none-accepted (lineTable (lineAt i) llrs) (equal-false (length llrs) 64 q, (ap not (lines-accepted e i l), tt))
 
       -- the buffer after k lines: their numbers, and what was there
       fed-lines : (k : ℕ) → k ≤ places → fedFrame bytes k frame ≡ joined k llrsAt ++ drop (64 * k) frame
@@ -214,7 +215,7 @@ module _ (bytes : List ℕ) where
           ap₂ (λ (xs ys : List ℕ). xs ++ ys)
           (ap (take (64 * k)) ih ∙ take-at (joined k llrsAt) rest (64 * k) size)
           (ap₂ (λ (xs ys : List ℕ). xs ++ ys)
-          (output-taken (lineAt k) vector (line-kept k l vector vector-is))
+          (output-accepted (lineAt k) vector (line-kept k l vector vector-is))
           (ap (drop (64 * k + 64)) ih
           ∙ ap (λ (j : ℕ). drop (j + 64) (joined k llrsAt ++ rest)) (sym size)
           ∙ drop-append-add (joined k llrsAt) rest 64 ∙ drop-drop 64 (64 * k) frame ∙ ap (λ (j : ℕ). drop j frame) (sym (mul-suc 64 k))))
@@ -246,26 +247,18 @@ fed-step k bytes frame step long = (
 -- the verdict on a line with an output of 64 numbers
 line-numbers : (bytes : List ℕ) → OneOf (lineVerdict 64 bytes) (0 ∷ 12 ∷ 8 ∷ 9 ∷ [])
 unfolding lineVerdict unequal
-line-numbers bytes =
-    refusal-has (λ k. OneOf k (0 ∷ 12 ∷ 8 ∷ 9 ∷ [])) (inl refl) (fedTable 64 bytes)
-    ((λ e. absurd (true-false (sym e))), ((λ e. inr (inl refl)), ((λ e. inr (inr (inl refl))), ((λ e. inr (inr (inr (inl refl)))), tt))))
+line-numbers bytes = refusal-among (12 ∷ 8 ∷ 9 ∷ []) (fedTable 64 bytes) (inl refl, (inr tt, (inr tt, (inr tt, tt))))
 
 -- none of these is 2
 not-two : (v : ℕ) → OneOf v (0 ∷ 12 ∷ 8 ∷ 9 ∷ []) → v ≡ 2 → ⊥
-not-two v (inl q) z = absurd (omega arith)
-not-two v (inr (inl q)) z = absurd (omega arith)
-not-two v (inr (inr (inl q))) z = absurd (omega arith)
-not-two v (inr (inr (inr (inl q)))) z = absurd (omega arith)
-not-two v (inr (inr (inr (inr q)))) z = absurd q
+not-two v o z = not-among 2 (0 ∷ 12 ∷ 8 ∷ 9 ∷ []) refl (subst (λ (k : ℕ). OneOf k (0 ∷ 12 ∷ 8 ∷ 9 ∷ [])) z o)
 
 -- of two verdicts that are not 2, the one that is tried first
 tried-number : (a b : ℕ) → (a ≡ 2 → ⊥) → (b ≡ 2 → ⊥) → OneOf (firstTried a b) (0 ∷ 12 ∷ 8 ∷ 9 ∷ [])
 unfolding firstTried
 tried-number a b h k =
-    refusal-has (λ v. OneOf v (0 ∷ 12 ∷ 8 ∷ 9 ∷ [])) (inl refl) (triedTable a b) (
-      (λ e. absurd (true-false (sym e ∙ ap₂ (λ (s t : Bool). s || t) (ne-eqb a 2 h) (ne-eqb b 2 k)))),
-      ((λ e. inr (inl refl)), ((λ e. inr (inr (inl refl))), ((λ e. inr (inr (inr (inl refl)))), tt))),
-    )
+    let neither = ap₂ (λ (s t : Bool). s || t) (ne-eqb a 2 h) (ne-eqb b 2 k) in
+    refusal-among (12 ∷ 8 ∷ 9 ∷ []) (triedTable a b) (inl neither, (inr tt, (inr tt, (inr tt, tt))))
 
 -- the verdict after one line more, with an output of 64 numbers
 pub fed-number : {verdict r : ℕ} {bytes llrs after : List ℕ} → LineFed verdict bytes llrs after r → length llrs ≡ 64
@@ -297,7 +290,7 @@ only-zero v (inr (inr (inr (inr q)))) a b c = absurd q
 both-zero : (a b : ℕ) → OneOf a (0 ∷ 12 ∷ 8 ∷ 9 ∷ []) → OneOf b (0 ∷ 12 ∷ 8 ∷ 9 ∷ []) → firstTried a b ≡ 0 → (a ≡ 0) × (b ≡ 0)
 unfolding firstTried
 both-zero a b oa ob e =
-    let rows = taken-none (triedTable a b) (lit< tt, (lit< tt, (lit< tt, (lit< tt, tt)))) e in (
+    let rows = accepted-none (triedTable a b) (lit< tt, (lit< tt, (lit< tt, (lit< tt, tt)))) e in (
       only-zero a oa (left-not 12 (rows .1 .0)) (left-not 8 (rows .1 .1 .0)) (left-not 9 (rows .1 .1 .1 .0)),
       only-zero b ob (right-not 12 (rows .1 .0)) (right-not 8 (rows .1 .1 .0)) (right-not 9 (rows .1 .1 .1 .0)),
     )
@@ -312,11 +305,11 @@ both-zero a b oa ob e =
 module _ (bytes llrs : List ℕ) (long : length llrs ≡ 64) (e : lineVerdict 64 bytes ≡ 0) where
   none-fits : NoneFits (fedTable 64 bytes)
   unfolding lineVerdict
-  none-fits = taken-none (fedTable 64 bytes) (lit< tt, (lit< tt, (lit< tt, (lit< tt, tt)))) e
+  none-fits = accepted-none (fedTable 64 bytes) (lit< tt, (lit< tt, (lit< tt, (lit< tt, tt)))) e
 
   output-is : lineOutput bytes llrs ≡ lineLlrs bytes
   unfolding lineRefusal
-  output-is = output-taken bytes llrs (none-taken (lineTable bytes llrs) (equal-false (length llrs) 64 long, (none-fits .1 .0, tt)))
+  output-is = output-accepted bytes llrs (none-accepted (lineTable bytes llrs) (equal-false (length llrs) 64 long, (none-fits .1 .0, tt)))
 
   small : AtMost 31 (lineLlrs bytes)
   small b l =

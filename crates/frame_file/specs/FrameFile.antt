@@ -22,8 +22,8 @@ module _ (places : ℕ) (bytes : List ℕ) where
   unfoldable pub frameLlrs : List ℕ
   frameLlrs = joined places (λ i. lineLlrs (frameLine i))
 
-  -- the rows of a frame file for a code of N places, in document 01's order: 12 for too few or too many bytes or a line that breaks its form; then,
-  -- with Qc = 5, 8 and 9
+  -- the rows of a frame file for a code of N places, in document 01's order: 12 for too few or too many bytes or a line
+  -- that breaks its form; then, with Qc = 5, 8 and 9
   abbrev pub frameTable : List Row
   frameTable =
       (12, unequal (length bytes) (257 * places))
@@ -32,7 +32,7 @@ module _ (places : ℕ) (bytes : List ℕ) where
       ∷ zerosRow places frameLlrs
       ∷ []
 
-  -- the verdict on the file: the number of its refusal, 0 where it is taken
+  -- the verdict on the file: the number of its refusal, 0 where it is accepted
   unfoldable pub frameVerdict : ℕ
   frameVerdict = refusalOf frameTable
 
@@ -44,9 +44,13 @@ fedTable long bytes = lengthRow long 64 ∷ lineRow bytes ∷ llrsRow 5 (lineLlr
 unfoldable pub lineVerdict : (long : ℕ) → List ℕ → ℕ
 lineVerdict long bytes = refusalOf (fedTable long bytes)
 
+-- the number k, where one of two verdicts is k
+abbrev pub eitherRow : (k a b : ℕ) → Row
+eitherRow k a b = (k, eqb a k || eqb b k)
+
 -- two verdicts, in the order in which they are tried: 2, 12, 8, 9
 abbrev pub triedTable : (a b : ℕ) → List Row
-triedTable a b = (2, eqb a 2 || eqb b 2) ∷ (12, eqb a 12 || eqb b 12) ∷ (8, eqb a 8 || eqb b 8) ∷ (9, eqb a 9 || eqb b 9) ∷ []
+triedTable a b = eitherRow 2 a b ∷ eitherRow 12 a b ∷ eitherRow 8 a b ∷ eitherRow 9 a b ∷ []
 
 -- of two verdicts the one that is tried first. A number that is none of the four counts as 0
 unfoldable pub firstTried : (a b : ℕ) → ℕ
@@ -56,7 +60,8 @@ firstTried a b = refusalOf (triedTable a b)
 unfoldable pub endVerdict : ℕ → Bool → ℕ
 endVerdict soFar left = firstTried soFar (cond left 12 0)
 
--- What `feed_line` promises, for every input, any number for the verdict so far included: its answer r, the verdict on this line and what was read before; and the output at exit
+-- What `feed_line` promises, for every input, any number for the verdict so far included: its answer r, the verdict on
+-- this line and what was read before; and the output at exit
 pub record LineFed (soFar : ℕ) (bytes llrs llrsAfter : List ℕ) (r : ℕ) : Type 0 where
   pub answer : r ≡ firstTried soFar (lineVerdict (length llrs) bytes)
   pub llrs-are : llrsAfter ≡ lineOutput bytes llrs
@@ -74,8 +79,8 @@ module _ (bytes : List ℕ) where
       let f = fedFrame k frame in
       take (64 * k) f ++ (lineOutput (part 257 k bytes) (vectorAt f k) ++ drop (64 * k + 64) f)
 
--- Feeding a file's bytes line by line, for every list of bytes, and then whether a byte is left: that is the verdict on the file; and where the file is
--- taken the buffer holds the frame's numbers
+-- Feeding a file's bytes line by line, for every list of bytes, and then whether a byte is left: that is the verdict on
+-- the file; and where the file is accepted the buffer holds the frame's numbers
 pub record Fed (places : ℕ) (bytes frame : List ℕ) : Type 0 where
   pub verdict : endVerdict (fedVerdict bytes places) (ltb (257 * places) (length bytes)) ≡ frameVerdict places bytes
   pub llrs : frameVerdict places bytes ≡ 0 → fedFrame bytes places frame ≡ frameLlrs places bytes

@@ -19,21 +19,16 @@ fn is_either(x: u8, a: u8, b: u8) -> bool
 fn first_tried(a: u8, b: u8) -> u8
     ensures { λ r. ⌜ r ≡ firstTried a b ⌝ }
 {
-    if is_either(2, a, b) {
-        return 2;
-    }
-    if is_either(12, a, b) {
-        return 12;
-    }
-    if is_either(8, a, b) {
-        return 8;
-    }
-    if is_either(9, a, b) { 9 } else { 0 }
+    let r = refusal::first(0, 2, is_either(2, a, b));
+    let r = refusal::first(r, 12, is_either(12, a, b));
+    let r = refusal::first(r, 8, is_either(8, a, b));
+    refusal::first(r, 9, is_either(9, a, b))
 }
 
-// The step for one line, from the verdict on the lines before it (0 before the first) and the bytes that were read for it: the verdict with this line, 2 for
-// an output of other than 64 numbers, 12 for bytes that are not a line, then, at Qc = 5, 8 for a penalty above 31 and 9 for no zero. A line of the right
-// form leaves its numbers in the output, any other leaves it as it came. Any input is taken; a verdict that is none of these counts as 0.
+// The step for one line, from the verdict on the lines before it (0 before the first) and the bytes that were read for
+// it: the verdict with this line, 2 for an output of other than 64 numbers, 12 for bytes that are not a line, then, at
+// Qc = 5, 8 for a penalty above 31 and 9 for no zero. A line of the right form leaves its numbers in the output, any
+// other leaves it as it came. Any input is accepted; a verdict that is none of these counts as 0.
 pub fn feed_line(verdict: u8, line: &[u8], llrs: &mut [u16]) -> u8
     ensures { λ r. ⌜ LineFed verdict (now (line .entry)) (now (llrs .entry)) (now (llrs .exit)) r ⌝ }
 {
@@ -44,8 +39,8 @@ pub fn feed_line(verdict: u8, line: &[u8], llrs: &mut [u16]) -> u8
     first_tried(verdict, decoder_refusal::frame_refusal(llrs, 31))
 }
 
-// The step at the end, from the verdict on all lines and whether a byte is left in the file: the verdict on the whole file. A verdict that is none of those of
-// `feed_line` counts as 0.
+// The step at the end, from the verdict on all lines and whether a byte is left in the file: the verdict on the whole
+// file. A verdict that is none of those of `feed_line` counts as 0.
 pub fn end_frame(verdict: u8, left: bool) -> u8
     ensures { λ r. ⌜ r ≡ endVerdict verdict left ⌝ }
 {

@@ -14,7 +14,8 @@ x ⊕ y = bitXor x y
 unfoldable pub timesA : ℕ → ℕ
 timesA x = cond (ltb x 32) (x * 2) ((x * 2 - 64) ⊕ 3)
 
--- the product with y of the polynomial that the k lowest bits of x are: a times that of the bits above bit 0, plus y where bit 0 is set
+-- the product with y of the polynomial that the k lowest bits of x are: a times that of the bits above bit 0, plus y
+-- where bit 0 is set
 unfoldable pub productBits : ℕ → ℕ → ℕ → ℕ
 productBits zero x y = 0
 productBits (suc k) x y = timesA (productBits k (x / 2) y) ⊕ (x % 2 * y)

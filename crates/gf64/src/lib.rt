@@ -4,7 +4,8 @@ ghost use Prim.Native.Nat.{_<_};
 ghost use Rattle.gf64.specs.Field.{IsProduct};
 ghost use Rattle.gf64.specs.Formula.{unreduced, reduced};
 
-// The product of two polynomials, not reduced. The even and the odd powers are multiplied apart: so each sum of bits has room for its carry.
+// The product of two polynomials, not reduced. The even and the odd powers are multiplied apart: so each sum of bits
+// has room for its carry.
 fn unreduced(x: u8, y: u8) -> u16
     ensures { λ r. ⌜ r ≡ unreduced x y ⌝ }
 {
@@ -23,7 +24,8 @@ fn reduced(p: u16) -> u8
     (((p ^ high) ^ (high * 2)) % 64) as u8
 }
 
-// The product of two symbols. Of a factor above 63 the six low bits count, so every pair of bytes has a product, and it is a symbol.
+// The product of two symbols. Of a factor above 63 the six low bits count, so every pair of bytes has a product, and
+// it is a symbol.
 pub fn product(x: u8, y: u8) -> u8
     ensures { λ r. ⌜ IsProduct x y r ⌝ }
 {

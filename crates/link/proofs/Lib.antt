@@ -1,3 +1,3 @@
 pub mod Noiseless
-pub mod Taken
+pub mod Accepted
 pub mod Table

@@ -1,5 +1,5 @@
 -- The table of worked rows holds, by computing every row from the definitions; the two claims on the premise come from the corollary.
-use mathlib.Core.Path.{_≡_, refl}
+use mathlib.Core.Path.{_≡_, refl, _∙_}
 use mathlib.Core.Bool.{false}
 use mathlib.Core.List.{List, _++_}
 use Prim.Native.Nat.{ℕ}
@@ -9,10 +9,10 @@ use lib.Dec.{lit<, ltb}
 use lib.ListN.{length, length-append}
 use Rattle.refusal.specs.Table.{refusalOf}
 use Rattle.refusal.specs.Tests.{outside, anyOutside, anyTo, unequal}
-use Rattle.refusal.proofs.Laws.{here, later, finds-refusal}
+use Rattle.refusal.proofs.Laws.{row-fits, row-passed}
 use Rattle.vector.specs.Vector.{tabulate, vectorAt, joined, sumTo, leastTo, least, lessLeast}
 use Rattle.gf64.specs.Field.{_⊕_, _⊙_, timesA, productBits, lowSix}
-use Rattle.polar_code.specs.Code.{kindOf, messageCount, messagePlaces}
+use Rattle.polar_code.specs.Code.{Code, kindOf, messageCount, messagePlaces}
 use Rattle.polar.specs.Transform.{theta, phi, coefficient, atKernel, atKernels, atLayer, layer, layers, transform}
 use Rattle.polar.specs.Encode.{symbolAt, restAfter, wordBefore, codewordOf}
 use Rattle.polar.specs.Message.{withPlace, messageOf}
@@ -21,15 +21,16 @@ use Rattle.ccsk.specs.Spread.{numbersOf, spreadRefusal}
 use Rattle.demapper.specs.Samples.{hardChip, magnitude, added, raw, rawLlrs, quantised, quantisedLlrs, llrs}
 use Rattle.demapper.specs.Demap.{frameOf, demapRefusal}
 use Rattle.demapper.specs.Noiseless.{sentSample, sentSymbol, numberSamples}
-use Rattle.scms.specs.Nodes.{scaled, checkNode, sums, subtractLeast, clipped, exceeding, lowered, variableNode, clippedEntries}
+use Rattle.scms.specs.Nodes.{ordered, checkFrom, checkNode, sumsFrom, sums, lessFrom, subtractLeast, clipped, exceeding, lowered, variableNode, clippedEntries}
 use Rattle.scms.specs.Decision.{smallestTo, smallest, decision}
-use Rattle.scms.specs.Decoder.{capOf, nodes, thetaSymbol, vectors, thetaVector, phiVector, loweredAt, clippedAt, clipCount, heldAt, decidedTo, held, symbols, report, count}
+use Rattle.scms.specs.Mode.{capOf}
+use Rattle.scms.specs.Decoder.{nodes, thetaSymbol, vectors, thetaVector, phiVector, loweredAt, clippedAt, clipCount, heldAt, decidedTo, held, symbols, report, count}
 use Rattle.columns.specs.Columns.{digit, column, before, field, fields, line}
 use Rattle.columns.specs.Reading.{spelledFrom, spelled, same, part, numbers, isLine}
 use Rattle.sheet.specs.CodeSheet.{badLine, numberOn, numbersOn, sheetMap, sheetCoefs, sheetRefusal}
 use Rattle.listing.specs.Listing.{heldFor, otherValue, leastOther, placeLine, numberLine}
 use Rattle.link.specs.Noiseless.{messageSamples, messageFrame, ChainInput, NoiselessPremise}
-use Rattle.link.specs.Rows.{firstLine, Worked}
+use Rattle.link.specs.Rows.{firstLine, sentBy, receivedBy, Worked}
 use Rattle.link.proofs.Noiseless.{corollary}
 
 -- shift 1 of base 1 differs from shift 0 in two chips
@@ -38,15 +39,17 @@ unfolding chip symbolChip differing sumTo
 two-chips = refl
 
 -- so with amplitude 10 a gain of 1/40 is too small
-fails : (n : ℕ) (frozen cs message : List ℕ) (qm : ℕ) → ChainInput n frozen cs message 1 10 1 40 3 qm → NoiselessPremise n frozen cs message 1 10 1 40 3 → ⊥
-fails n frozen cs message qm h p =
-    let far = corollary n frozen cs message 1 10 1 40 3 qm h .holds-apart p 1 (record { least = omega arith; most = omega arith }) in
+fails : (code : Code) (message : List ℕ) (qm : ℕ) → ChainInput (sentBy code message) (receivedBy 40 qm)
+    → NoiselessPremise (sentBy code message) (receivedBy 40 qm) → ⊥
+fails code message qm h p =
+    let far = corollary (sentBy code message) (receivedBy 40 qm) h .holds-apart p 1 (record { least = omega arith; most = omega arith }) in
     let e = two-chips in
     absurd (omega arith)
 
 -- and one of 1/20 is enough, as for every base
-holds : (n : ℕ) (frozen cs message : List ℕ) (qm : ℕ) → ChainInput n frozen cs message 1 10 1 20 3 qm → NoiselessPremise n frozen cs message 1 10 1 20 3
-holds n frozen cs message qm h = corollary n frozen cs message 1 10 1 20 3 qm h .any-base (lit< tt) (omega arith)
+holds : (code : Code) (message : List ℕ) (qm : ℕ) → ChainInput (sentBy code message) (receivedBy 20 qm)
+    → NoiselessPremise (sentBy code message) (receivedBy 20 qm)
+holds code message qm h = corollary (sentBy code message) (receivedBy 20 qm) h .any-base (lit< tt) (omega arith)
 
 -- five bytes and more
 five : (line rest : List ℕ) → length line ≡ 5 → ltb (length (line ++ rest)) 5 ≡ false
@@ -55,14 +58,14 @@ five line rest e = le-ltb (length (line ++ rest)) 5 (let l = length-append line 
 -- a first line `   9`
 nine : (rest frozen cs : List ℕ) → sheetRefusal (firstLine 32 57 ++ rest) frozen cs ≡ 1
 unfolding sheetRefusal badLine numberOn part isLine same line fields field before column digit numbers tabulate spelled spelledFrom outside
-nine rest frozen cs = finds-refusal (later (five (firstLine 32 57) rest refl) (later refl (here refl)))
+nine rest frozen cs = row-passed 12 _ (five (firstLine 32 57) rest refl) ∙ row-passed 12 _ refl ∙ row-fits 1 _ refl
 
 -- a first line `  08`
 zero-eight : (rest frozen cs : List ℕ) → sheetRefusal (firstLine 48 56 ++ rest) frozen cs ≡ 12
 unfolding sheetRefusal badLine part isLine same line fields field before column digit numbers tabulate spelled spelledFrom
-zero-eight rest frozen cs = finds-refusal (later (five (firstLine 48 56) rest refl) (here refl))
+zero-eight rest frozen cs = row-passed 12 _ (five (firstLine 48 56) rest refl) ∙ row-fits 12 _ refl
 
 -- every row holds
 pub worked : Worked
-unfolding _⊕_ _⊙_ timesA productBits lowSix theta phi coefficient atKernel atKernels atLayer layer layers transform refusalOf outside anyOutside unequal tabulate joined sumTo leastTo least lessLeast chip symbolChip turned spreadRefusal hardChip magnitude added raw rawLlrs quantised quantisedLlrs llrs vectorAt frameOf demapRefusal sentSample sentSymbol kindOf scaled checkNode sums subtractLeast clipped exceeding lowered variableNode clippedEntries smallestTo smallest decision capOf nodes thetaSymbol vectors thetaVector phiVector loweredAt clippedAt clipCount heldAt decidedTo held symbols report count symbolAt restAfter wordBefore codewordOf numbersOf withPlace messageOf numberSamples messageSamples messageFrame sheetRefusal sheetMap sheetCoefs badLine numberOn numbersOn part isLine same line fields field before column digit numbers spelled spelledFrom anyTo messageCount messagePlaces placeLine numberLine heldFor otherValue leastOther
+unfolding _⊕_ _⊙_ timesA productBits lowSix theta phi coefficient atKernel atKernels atLayer layer layers transform refusalOf outside anyOutside unequal tabulate joined sumTo leastTo least lessLeast chip symbolChip turned spreadRefusal hardChip magnitude added raw rawLlrs quantised quantisedLlrs llrs vectorAt frameOf demapRefusal sentSample sentSymbol kindOf ordered checkFrom checkNode sumsFrom sums lessFrom subtractLeast clipped exceeding lowered variableNode clippedEntries smallestTo smallest decision capOf nodes thetaSymbol vectors thetaVector phiVector loweredAt clippedAt clipCount heldAt decidedTo held symbols report count symbolAt restAfter wordBefore codewordOf numbersOf withPlace messageOf numberSamples messageSamples messageFrame sheetRefusal sheetMap sheetCoefs badLine numberOn numbersOn part isLine same line fields field before column digit numbers spelled spelledFrom anyTo messageCount messagePlaces placeLine numberLine heldFor otherValue leastOther
 worked = record { rows-hold = refl; samples-sent = refl; premise-fails = fails; premise-holds = holds; nine-gives-1 = nine; zero-eight-gives-12 = zero-eight }

@@ -1,5 +1,6 @@
--- The noiseless statement, which document 01 names (demand 2's second half): a message sent without noise is decoded to itself. All is said with the
--- definitions that the promises of `encode`, `spread`, `demap` and `decode` cite, and with the samples that are sent for numbers.
+-- The noiseless statement, which document 01 names (demand 2's second half): a message sent without noise is decoded to
+-- itself. All is said with the definitions that the promises of `encode`, `spread`, `demap` and `decode` cite, and with
+-- the samples that are sent for numbers.
 use Prim.Native.Nat.{ℕ, _*_, _^_, _≤_, _<_}
 use mathlib.Core.Path.{_≡_}
 use mathlib.Core.List.{List}
@@ -7,65 +8,93 @@ use lib.IntN.{ℤ}
 use lib.ListN.{length, getD}
 use Rattle.refusal.specs.Tests.{Within}
 use Rattle.vector.specs.Vector.{vectorAt}
-use Rattle.polar_code.specs.Code.{messagePlaces, IsCode}
+use Rattle.polar_code.specs.Code.{Code, codeOf, messagePlaces, IsCode}
 use Rattle.polar.specs.Encode.{wordBefore, codewordOf}
 use Rattle.polar.specs.Message.{messageOf}
 use Rattle.ccsk.specs.Chips.{turned}
 use Rattle.ccsk.specs.Spread.{numbersOf}
 use Rattle.demapper.specs.Demap.{frameOf}
 use Rattle.demapper.specs.Noiseless.{numberSamples, Apart}
-use Rattle.scms.specs.Decoder.{capOf, symbols}
+use Rattle.scms.specs.Mode.{modeOf}
+use Rattle.scms.specs.Decoder.{symbols}
+use Rattle.decoder_refusal.specs.Refusals.{Settings, settingsOf}
+
+-- what is sent, and how: a message of symbols by a code, with a base and an amplitude
+pub record Transmission : Type 0 where
+  pub code : Code
+  pub message : List ℕ
+  pub base : ℕ
+  pub amplitude : ℕ
+
+-- how it is received: the gain, top over bottom, and what the decoder's caller sets
+pub record Reception : Type 0 where
+  pub top : ℕ
+  pub bottom : ℕ
+  pub settings : Settings
+
+-- what is sent, from what a caller gives
+abbrev pub transmissionOf : (n : ℕ) (map cs message : List ℕ) (base amplitude : ℕ) → Transmission
+transmissionOf n map cs message base amplitude =
+    record { code = codeOf n map cs; message = message; base = base; amplitude = amplitude }
+
+-- how it is received, likewise
+abbrev pub receptionOf : (top bottom qc qm : ℕ) → Reception
+receptionOf top bottom qc qm = record { top = top; bottom = bottom; settings = settingsOf qc qm }
 
 -- a code, a message, a base and an amplitude that are not refused
-pub record Sendable (n : ℕ) (map cs message : List ℕ) (base amplitude : ℕ) : Type 0 where
-  pub code : IsCode n map cs
-  pub message-long : length message ≡ messagePlaces map
-  pub message-symbols : (i : ℕ) → i < length message → Within 0 63 (getD message i 0)
-  pub base-turns : turned base 32 ≡ base → ⊥
-  pub amplitude-fits : Within 1 127 amplitude
+pub record Sendable (s : Transmission) : Type 0 where
+  pub is-code : IsCode (s .code)
+  pub message-long : length (s .message) ≡ messagePlaces (s .code .map)
+  pub message-symbols : (i : ℕ) → i < length (s .message) → Within 0 63 (getD (s .message) i 0)
+  pub base-turns : turned (s .base) 32 ≡ s .base → ⊥
+  pub amplitude-fits : Within 1 127 (s .amplitude)
 
 -- the same with a gain and precisions that are not refused
-pub record ChainInput (n : ℕ) (map cs message : List ℕ) (base amplitude top bottom qc qm : ℕ) : Type 0 where
-  pub sendable : Sendable n map cs message base amplitude
-  pub gain-top : Within 1 255 top
-  pub gain-bottom : Within 1 255 bottom
-  pub channel-precision : Within 1 5 qc
-  pub internal-precision : Within qc 13 qm
+pub record ChainInput (s : Transmission) (r : Reception) : Type 0 where
+  pub sendable : Sendable s
+  pub gain-top : Within 1 255 (r .top)
+  pub gain-bottom : Within 1 255 (r .bottom)
+  pub channel-precision : Within 1 5 (r .settings .qc)
+  pub internal-precision : Within (r .settings .qc) 13 (r .settings .qm)
 
-module _ (n : ℕ) (map cs message : List ℕ) (base amplitude : ℕ) where
-  -- the samples sent for a message: its codeword is spread to numbers, and +A is sent for each chip 0 of these and −A for each chip 1
-  unfoldable pub messageSamples : List ℤ
-  messageSamples = numberSamples amplitude (numbersOf base (codewordOf n map cs message))
+-- the samples sent for a message: its codeword is spread to numbers, and +A is sent for each chip 0 of these and −A for
+-- each chip 1
+unfoldable pub messageSamples : Transmission → List ℤ
+messageSamples s = numberSamples (s .amplitude) (numbersOf (s .base) (codewordOf (s .code) (s .message)))
 
+module _ (s : Transmission) (r : Reception) where
   -- the frame of penalties weighed from them
-  unfoldable pub messageFrame : (top bottom qc : ℕ) → List ℕ
-  messageFrame top bottom qc = frameOf base top bottom qc messageSamples
+  unfoldable pub messageFrame : List ℕ
+  messageFrame = frameOf (s .base) (r .top) (r .bottom) (r .settings .qc) (messageSamples s)
 
-  -- the premise: at each place i of the codeword each wrong symbol's penalty, weighed from the sent samples, is still at least 1 after rounding
-  abbrev pub NoiselessPremise : (top bottom qc : ℕ) → Type 0
-  NoiselessPremise top bottom qc =
-      (i v : ℕ) → i < 2 ^ n → v < 64 → (v ≡ getD (codewordOf n map cs message) i 0 → ⊥)
-      → 1 ≤ getD (vectorAt (messageFrame top bottom qc) i) v 0
+  -- the premise: at each place i of the codeword each wrong symbol's penalty, weighed from the sent samples, is still
+  -- at least 1 after rounding
+  abbrev pub NoiselessPremise : Type 0
+  NoiselessPremise =
+      (i v : ℕ) → i < 2 ^ s .code .n → v < 64 → (v ≡ getD (codewordOf (s .code) (s .message)) i 0 → ⊥)
+      → 1 ≤ getD (vectorAt messageFrame i) v 0
 
-  -- what is decoded from that frame at the precision Qm: the symbols answered are the word before the transform, and those at the message places, in
-  -- rising order, are the message
-  pub record GivenBack (top bottom qc qm : ℕ) : Type 0 where
-    pub word-back : symbols n (capOf qm) cs map (messageFrame top bottom qc) ≡ wordBefore map message
-    pub message-back : messageOf map (symbols n (capOf qm) cs map (messageFrame top bottom qc)) ≡ message
+  -- the symbols that are decoded from that frame at the precision Qm
+  abbrev pub messageSymbols : List ℕ
+  messageSymbols = symbols (s .code) (modeOf (r .settings .qm)) messageFrame
+
+  -- they are the word before the transform, and those at the message places, in rising order, are the message
+  pub record GivenBack : Type 0 where
+    pub word-back : messageSymbols ≡ wordBefore (s .code .map) (s .message)
+    pub message-back : messageOf (s .code .map) messageSymbols ≡ s .message
 
   -- the noiseless statement, at every precision, clipped or not
-  abbrev pub NoiselessStatement : (top bottom qc qm : ℕ) → Type 0
-  NoiselessStatement top bottom qc qm =
-      ChainInput n map cs message base amplitude top bottom qc qm → NoiselessPremise top bottom qc → GivenBack top bottom qc qm
+  abbrev pub NoiselessStatement : Type 0
+  NoiselessStatement = ChainInput s r → NoiselessPremise → GivenBack
 
-  -- When the premise holds, as conditions on base, amplitude and gain alone. It holds exactly where, for every shift from 1 to 63, the gain times the
-  -- amplitude times the number of chips in which it differs from shift 0 is at least 1. For every base of 64 bits that is not refused it is enough that
-  -- the gain times twice the amplitude is at least 1
-  pub record PremiseConditions (top bottom qc : ℕ) : Type 0 where
-    pub apart-holds : Apart base amplitude top bottom → NoiselessPremise top bottom qc
-    pub holds-apart : NoiselessPremise top bottom qc → Apart base amplitude top bottom
-    pub any-base : base < 2 ^ 64 → bottom ≤ 2 * amplitude * top → NoiselessPremise top bottom qc
+  -- When the premise holds, as conditions on base, amplitude and gain alone. It holds exactly where, for every shift
+  -- from 1 to 63, the gain times the amplitude times the number of chips in which it differs from shift 0 is at least
+  -- 1. For every base of 64 bits that is not refused it is enough that the gain times twice the amplitude is at least 1
+  pub record PremiseConditions : Type 0 where
+    pub apart-holds : Apart (s .base) (s .amplitude) (r .top) (r .bottom) → NoiselessPremise
+    pub holds-apart : NoiselessPremise → Apart (s .base) (s .amplitude) (r .top) (r .bottom)
+    pub any-base : s .base < 2 ^ 64 → r .bottom ≤ 2 * s .amplitude * r .top → NoiselessPremise
 
   -- the corollary
-  abbrev pub Corollary : (top bottom qc qm : ℕ) → Type 0
-  Corollary top bottom qc qm = ChainInput n map cs message base amplitude top bottom qc qm → PremiseConditions top bottom qc
+  abbrev pub Corollary : Type 0
+  Corollary = ChainInput s r → PremiseConditions

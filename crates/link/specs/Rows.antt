@@ -1,4 +1,5 @@
--- Document 01, 'Frames worked by hand': the rows that are proved, each as what the definitions give and what the paper says.
+-- Document 01, 'Frames worked by hand': the rows that are proved, each as what the definitions give and what the paper
+-- says.
 use Prim.Native.Nat.{ℕ, _+_, _^_}
 use mathlib.Core.Path.{_≡_}
 use mathlib.Core.List.{List, [], _∷_, _++_, map}
@@ -7,6 +8,7 @@ use lib.ListN.{getD, take, set, replicate}
 use Rattle.refusal.specs.Table.{refusalOf}
 use Rattle.vector.specs.Vector.{tabulate}
 use Rattle.gf64.specs.Field.{_⊙_}
+use Rattle.polar_code.specs.Code.{Code, codeOf}
 use Rattle.polar.specs.Transform.{transform}
 use Rattle.polar.specs.Encode.{codewordOf}
 use Rattle.polar.specs.Message.{messageOf}
@@ -14,11 +16,13 @@ use Rattle.ccsk.specs.Chips.{symbolChip, turned}
 use Rattle.ccsk.specs.Spread.{spreadRefusal}
 use Rattle.demapper.specs.Demap.{frameOf, demapRefusal}
 use Rattle.demapper.specs.Noiseless.{sentSymbol}
-use Rattle.scms.specs.Decoder.{capOf, held, symbols, report, count}
+use Rattle.scms.specs.Mode.{Mode, modeOf}
+use Rattle.scms.specs.Decoder.{held, symbols, report, count}
+use Rattle.decoder_refusal.specs.Refusals.{settingsOf}
 use Rattle.columns.specs.Columns.{line}
 use Rattle.sheet.specs.CodeSheet.{sheetLayers, sheetMap, sheetCoefs, formTable, sheetRefusal}
 use Rattle.listing.specs.Listing.{placeLine, numberLine}
-use Rattle.link.specs.Noiseless.{messageFrame, ChainInput, NoiselessPremise}
+use Rattle.link.specs.Noiseless.{Transmission, Reception, messageFrame, ChainInput, NoiselessPremise}
 
 -- samples +10 except chip 0 at −10
 abbrev pub workedSamples : List ℤ
@@ -38,7 +42,8 @@ productRows =
     ∷ record { given = 63 ⊙ 63 ∷ []; expected = 42 ∷ [] }
     ∷ []
 
--- N = 4, all coefficients 1: (0, 1, 2, 3) becomes (0, 2, 1, 3); layer 1 coefficients 2, 1, layer 2 both 1: (0, 0, 0, 7) becomes (7, 7, 14, 7)
+-- N = 4, all coefficients 1: (0, 1, 2, 3) becomes (0, 2, 1, 3); layer 1 coefficients 2, 1, layer 2 both 1: (0, 0, 0, 7)
+-- becomes (7, 7, 14, 7)
 abbrev pub transformRows : List Row
 transformRows =
     record { given = transform 2 (1 ∷ 1 ∷ 1 ∷ 1 ∷ []) (0 ∷ 1 ∷ 2 ∷ 3 ∷ []); expected = 0 ∷ 2 ∷ 1 ∷ 3 ∷ [] }
@@ -54,7 +59,8 @@ baseRows =
     ∷ record { given = demapRefusal (2 ^ 32 + 1) 1 4 3 workedSamples (replicate 64 0) ∷ []; expected = 10 ∷ [] }
     ∷ []
 
--- base 1, samples +10 except chip 0 at −10, Qc 3: gain 1/4 gives 0 for symbol 0 and 5 for all others; 1/40 gives 0 for all; 1/20 gives 1
+-- base 1, samples +10 except chip 0 at −10, Qc 3: gain 1/4 gives 0 for symbol 0 and 5 for all others; 1/40 gives 0 for
+-- all; 1/20 gives 1
 abbrev pub gainRows : List Row
 gainRows =
     record { given = frameOf 1 1 4 3 workedSamples; expected = 0 ∷ replicate 63 5 }
@@ -67,40 +73,52 @@ abbrev pub zeroAt : (s llr : ℕ) → List ℕ
 zeroAt s llr = set (replicate 64 llr) s 0
 
 -- the penalty held for the symbol that place i gets
-abbrev pub heldFor : (n cap : ℕ) (cs map frame : List ℕ) → ℕ → ℕ
-heldFor n cap cs map frame i = getD (held n cap cs map frame i) (getD (symbols n cap cs map frame) i 0) 0
+abbrev pub heldFor : Code → Mode → (frame : List ℕ) → ℕ → ℕ
+heldFor code mode frame i = getD (held code mode frame i) (getD (symbols code mode frame) i 0) 0
 
--- N = 2, coefficient 1, place 0 frozen; first vector 0 at 5, else 1; second 0 at 4, else 1 (the caps of Qm = 1 and of Qm = 13). Place 0 is 0 with
--- penalty 1 held; place 1 has 0 at 4 and 5, 1 elsewhere, and is 4
-abbrev pub decoderRows : (cap : ℕ) → List Row
-decoderRows cap =
+-- the code of the rows below: N = 2, place 0 frozen, and this coefficient
+abbrev pub workedCode : (coef : ℕ) → Code
+workedCode coef = codeOf 1 (1 ∷ 0 ∷ []) (coef ∷ [])
+
+-- N = 2, coefficient 1, place 0 frozen; first vector 0 at 5, else 1; second 0 at 4, else 1 (the caps of Qm = 1 and of
+-- Qm = 13). Place 0 is 0 with penalty 1 held; place 1 has 0 at 4 and 5, 1 elsewhere, and is 4
+abbrev pub decoderRows : Mode → List Row
+decoderRows mode =
     let frame = zeroAt 5 1 ++ zeroAt 4 1 in
-    record { given = symbols 1 cap (1 ∷ []) (1 ∷ 0 ∷ []) frame; expected = 0 ∷ 4 ∷ [] }
-    ∷ record { given = heldFor 1 cap (1 ∷ []) (1 ∷ 0 ∷ []) frame 0 ∷ []; expected = 1 ∷ [] }
-    ∷ record { given = held 1 cap (1 ∷ []) (1 ∷ 0 ∷ []) frame 1; expected = set (set (replicate 64 1) 4 0) 5 0 }
+    record { given = symbols (workedCode 1) mode frame; expected = 0 ∷ 4 ∷ [] }
+    ∷ record { given = heldFor (workedCode 1) mode frame 0 ∷ []; expected = 1 ∷ [] }
+    ∷ record { given = held (workedCode 1) mode frame 1; expected = set (set (replicate 64 1) 4 0) 5 0 }
     ∷ []
 
--- the sheet 1, 1, 0, 2 (n = 1, place 0 frozen, coefficient 2); first vector 0 at 33, else 3; second 0 at 1, else 3. The symbols are 0 and 33. At
--- Qm = 13, for each place the penalty held for its symbol and that held for every other value are 0 and 3, 0 and 6, and the count is 0. With
--- Qc = Qm = 2 the 6 becomes 3 and the count is 63
+-- the sheet 1, 1, 0, 2 (n = 1, place 0 frozen, coefficient 2); first vector 0 at 33, else 3; second 0 at 1, else 3. The
+-- symbols are 0 and 33. At Qm = 13, for each place the penalty held for its symbol and that held for every other value
+-- are 0 and 3, 0 and 6, and the count is 0. With Qc = Qm = 2 the 6 becomes 3 and the count is 63
 abbrev pub sheetRows : List Row
 sheetRows =
     let frame = zeroAt 33 3 ++ zeroAt 1 3 in
-    record { given = symbols 1 (capOf 13) (2 ∷ []) (1 ∷ 0 ∷ []) frame; expected = 0 ∷ 33 ∷ [] }
-    ∷ record { given = report 1 (capOf 13) (2 ∷ []) (1 ∷ 0 ∷ []) frame; expected = zeroAt 0 3 ++ zeroAt 33 6 }
-    ∷ record { given = count 1 (capOf 13) (2 ∷ []) (1 ∷ 0 ∷ []) frame ∷ []; expected = 0 ∷ [] }
-    ∷ record { given = symbols 1 (capOf 2) (2 ∷ []) (1 ∷ 0 ∷ []) frame; expected = 0 ∷ 33 ∷ [] }
-    ∷ record { given = report 1 (capOf 2) (2 ∷ []) (1 ∷ 0 ∷ []) frame; expected = zeroAt 0 3 ++ zeroAt 33 3 }
-    ∷ record { given = count 1 (capOf 2) (2 ∷ []) (1 ∷ 0 ∷ []) frame ∷ []; expected = 63 ∷ [] }
+    record { given = symbols (workedCode 2) (modeOf 13) frame; expected = 0 ∷ 33 ∷ [] }
+    ∷ record { given = report (workedCode 2) (modeOf 13) frame; expected = zeroAt 0 3 ++ zeroAt 33 6 }
+    ∷ record { given = count (workedCode 2) (modeOf 13) frame ∷ []; expected = 0 ∷ [] }
+    ∷ record { given = symbols (workedCode 2) (modeOf 2) frame; expected = 0 ∷ 33 ∷ [] }
+    ∷ record { given = report (workedCode 2) (modeOf 2) frame; expected = zeroAt 0 3 ++ zeroAt 33 3 }
+    ∷ record { given = count (workedCode 2) (modeOf 2) frame ∷ []; expected = 63 ∷ [] }
     ∷ []
 
--- from end to end: the frame of that sheet is weighed from what is sent for the message 33 with base 1, amplitude 10 and gain 3/20, at Qc = 5 and at Qc = 2,
--- and the message is read from the symbols decided, 0 and 33
+-- what is sent for the message 33 by that code with base 1 and amplitude 10
+abbrev pub workedTransmission : Transmission
+workedTransmission = record { code = workedCode 2; message = 33 ∷ []; base = 1; amplitude = 10 }
+
+-- it is received with gain 3/20 at these precisions
+abbrev pub workedReception : (qc qm : ℕ) → Reception
+workedReception qc qm = record { top = 3; bottom = 20; settings = settingsOf qc qm }
+
+-- from end to end: the frame of that sheet is weighed from what is sent, at Qc = 5 and at Qc = 2, and the message is
+-- read from the symbols decided, 0 and 33
 abbrev pub linkRows : List Row
 linkRows =
-    record { given = codewordOf 1 (1 ∷ 0 ∷ []) (2 ∷ []) (33 ∷ []); expected = 33 ∷ 1 ∷ [] }
-    ∷ record { given = messageFrame 1 (1 ∷ 0 ∷ []) (2 ∷ []) (33 ∷ []) 1 10 3 20 5; expected = zeroAt 33 3 ++ zeroAt 1 3 }
-    ∷ record { given = messageFrame 1 (1 ∷ 0 ∷ []) (2 ∷ []) (33 ∷ []) 1 10 3 20 2; expected = zeroAt 33 3 ++ zeroAt 1 3 }
+    record { given = codewordOf (workedCode 2) (33 ∷ []); expected = 33 ∷ 1 ∷ [] }
+    ∷ record { given = messageFrame workedTransmission (workedReception 5 13); expected = zeroAt 33 3 ++ zeroAt 1 3 }
+    ∷ record { given = messageFrame workedTransmission (workedReception 2 2); expected = zeroAt 33 3 ++ zeroAt 1 3 }
     ∷ record { given = messageOf (1 ∷ 0 ∷ []) (0 ∷ 33 ∷ []); expected = 33 ∷ [] }
     ∷ []
 
@@ -112,7 +130,7 @@ firstLine third fourth = 32 ∷ 32 ∷ third ∷ fourth ∷ 10 ∷ []
 abbrev pub firstRefusal : List ℕ → ℕ
 firstRefusal bytes = refusalOf (take 3 (formTable bytes))
 
--- a first sheet line `   8` is taken, `   9` gives 1, `  08` gives 12
+-- a first sheet line `   8` is accepted, `   9` gives 1, `  08` gives 12
 abbrev pub lineRows : List Row
 lineRows =
     record { given = firstRefusal (firstLine 32 56) ∷ sheetLayers (firstLine 32 56) ∷ []; expected = 0 ∷ 8 ∷ [] }
@@ -120,8 +138,8 @@ lineRows =
     ∷ record { given = firstRefusal (firstLine 48 56) ∷ []; expected = 12 ∷ [] }
     ∷ []
 
--- the sheet `   1`, `   1`, `   0`, `   2` as it is written, and what the program prints for it and the frame above: for each place a line of four fields of
--- five columns, and the clip count
+-- the sheet `   1`, `   1`, `   0`, `   2` as it is written, and what the program prints for it and the frame above:
+-- for each place a line of four fields of five columns, and the clip count
 abbrev pub workedSheet : List ℕ
 workedSheet = line 4 (1 ∷ []) ++ (line 4 (1 ∷ []) ++ (line 4 (0 ∷ []) ++ line 4 (2 ∷ [])))
 
@@ -129,32 +147,53 @@ workedSheet = line 4 (1 ∷ []) ++ (line 4 (1 ∷ []) ++ (line 4 (0 ∷ []) ++ l
 abbrev pub listingRows : List Row
 listingRows =
     let frame = zeroAt 33 3 ++ zeroAt 1 3 in
-    let llrs = held 1 (capOf 13) (2 ∷ []) (1 ∷ 0 ∷ []) frame in
+    let llrs = held (workedCode 2) (modeOf 13) frame in
     let blanks : List ℕ = 32 ∷ 32 ∷ 32 ∷ 32 ∷ [] in
     record {
       given = workedSheet;
-      expected = 32 ∷ 32 ∷ 32 ∷ 49 ∷ 10 ∷ 32 ∷ 32 ∷ 32 ∷ 49 ∷ 10 ∷ 32 ∷ 32 ∷ 32 ∷ 48 ∷ 10 ∷ 32 ∷ 32 ∷ 32 ∷ 50 ∷ 10 ∷ [];
+      expected = firstLine 32 49 ++ (firstLine 32 49 ++ (firstLine 32 48 ++ firstLine 32 50));
     }
-    ∷ record { given = sheetRefusal workedSheet (0 ∷ 0 ∷ []) (0 ∷ []) ∷ sheetLayers workedSheet ∷ []; expected = 0 ∷ 1 ∷ [] }
+    ∷ record {
+      given = sheetRefusal workedSheet (0 ∷ 0 ∷ []) (0 ∷ []) ∷ sheetLayers workedSheet ∷ [];
+      expected = 0 ∷ 1 ∷ [];
+    }
     ∷ record { given = sheetMap workedSheet; expected = 1 ∷ 0 ∷ [] }
     ∷ record { given = sheetCoefs workedSheet; expected = 2 ∷ [] }
-    ∷ record { given = placeLine 0 0 (llrs 0); expected = blanks ++ (48 ∷ blanks ++ (48 ∷ blanks ++ (48 ∷ blanks ++ (51 ∷ 10 ∷ [])))) }
-    ∷ record { given = placeLine 1 33 (llrs 1); expected = blanks ++ (49 ∷ 32 ∷ 32 ∷ 32 ∷ 51 ∷ 51 ∷ blanks ++ (48 ∷ blanks ++ (54 ∷ 10 ∷ []))) }
-    ∷ record { given = numberLine (count 1 (capOf 13) (2 ∷ []) (1 ∷ 0 ∷ []) frame); expected = blanks ++ (48 ∷ 10 ∷ []) }
+    ∷ record {
+      given = placeLine 0 0 (llrs 0);
+      expected = blanks ++ (48 ∷ blanks ++ (48 ∷ blanks ++ (48 ∷ blanks ++ (51 ∷ 10 ∷ []))));
+    }
+    ∷ record {
+      given = placeLine 1 33 (llrs 1);
+      expected = blanks ++ (49 ∷ 32 ∷ 32 ∷ 32 ∷ 51 ∷ 51 ∷ blanks ++ (48 ∷ blanks ++ (54 ∷ 10 ∷ [])));
+    }
+    ∷ record { given = numberLine (count (workedCode 2) (modeOf 13) frame); expected = blanks ++ (48 ∷ 10 ∷ []) }
     ∷ []
 
 -- all rows
 abbrev pub rows : List Row
 rows =
-    productRows ++ (transformRows ++ (baseRows ++ (gainRows ++ (decoderRows (capOf 1) ++ (decoderRows (capOf 13) ++ (sheetRows ++ (linkRows ++ (lineRows ++ listingRows))))))))
+    productRows ++ (transformRows ++ (baseRows ++ (gainRows ++ (decoderRows (modeOf 1)
+    ++ (decoderRows (modeOf 13) ++ (sheetRows ++ (linkRows ++ (lineRows ++ listingRows))))))))
 
--- the claim over the whole table: every row's two sides are the same; those samples are what is sent for symbol 0 with amplitude 10; and with base 1,
--- amplitude 10 and Qc 3 the noiseless statement's premise fails for gain 1/40 and holds for gain 1/20, whatever code and message are sent; and whatever
--- comes after the first line of a sheet and whatever buffers are lent, `   9` gives 1 and `  08` gives 12
+-- a code and a message sent with base 1 and amplitude 10
+abbrev pub sentBy : Code → (message : List ℕ) → Transmission
+sentBy code message = record { code = code; message = message; base = 1; amplitude = 10 }
+
+-- received with gain 1 over `bottom` at Qc = 3
+abbrev pub receivedBy : (bottom qm : ℕ) → Reception
+receivedBy bottom qm = record { top = 1; bottom = bottom; settings = settingsOf 3 qm }
+
+-- the claim over the whole table: every row's two sides are the same; those samples are what is sent for symbol 0 with
+-- amplitude 10; and with base 1, amplitude 10 and Qc 3 the noiseless statement's premise fails for gain 1/40 and holds
+-- for gain 1/20, whatever code and message are sent; and whatever comes after the first line of a sheet and whatever
+-- buffers are lent, `   9` gives 1 and `  08` gives 12
 pub record Worked : Type 0 where
   pub rows-hold : map (λ (r : Row). r .given) rows ≡ map (λ (r : Row). r .expected) rows
   pub samples-sent : sentSymbol 1 10 0 ≡ workedSamples
-  pub premise-fails : (n : ℕ) (frozen cs message : List ℕ) (qm : ℕ) → ChainInput n frozen cs message 1 10 1 40 3 qm → NoiselessPremise n frozen cs message 1 10 1 40 3 → ⊥
-  pub premise-holds : (n : ℕ) (frozen cs message : List ℕ) (qm : ℕ) → ChainInput n frozen cs message 1 10 1 20 3 qm → NoiselessPremise n frozen cs message 1 10 1 20 3
+  pub premise-fails : (code : Code) (message : List ℕ) (qm : ℕ) → ChainInput (sentBy code message) (receivedBy 40 qm)
+      → NoiselessPremise (sentBy code message) (receivedBy 40 qm) → ⊥
+  pub premise-holds : (code : Code) (message : List ℕ) (qm : ℕ) → ChainInput (sentBy code message) (receivedBy 20 qm)
+      → NoiselessPremise (sentBy code message) (receivedBy 20 qm)
   pub nine-gives-1 : (rest frozen cs : List ℕ) → sheetRefusal (firstLine 32 57 ++ rest) frozen cs ≡ 1
   pub zero-eight-gives-12 : (rest frozen cs : List ℕ) → sheetRefusal (firstLine 48 56 ++ rest) frozen cs ≡ 12

@@ -1,1 +1,2 @@
-// No code: what holds from end to end, and the one proved table of document 01's worked rows (specs/Rows.antt, proofs/Table.antt).
+// No code: what holds from end to end, and the one proved table of document 01's worked rows (specs/Rows.antt,
+// proofs/Table.antt).

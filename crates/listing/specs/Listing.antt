@@ -8,11 +8,13 @@ use lib.ListN.{getD}
 use Rattle.vector.specs.Vector.{leastTo}
 use Rattle.columns.specs.Columns.{line}
 
--- the penalty held for a value at a place, of the numbers held for its values. An entry that a list does not have counts as 0
+-- the penalty held for a value at a place, of the numbers held for its values. An entry that a list does not have
+-- counts as 0
 unfoldable pub heldFor : ℕ → List ℕ → ℕ
 heldFor value llrs = getD llrs value 0
 
--- the values 0 to 63 but for the symbol, in rising order: number j of them. (For a number above 63, which is no symbol, they are 0 to 62.)
+-- the values 0 to 63 but for the symbol, in rising order: number j of them. (For a number above 63, which is no symbol,
+-- they are 0 to 62.)
 unfoldable pub otherValue : (symbol j : ℕ) → ℕ
 otherValue symbol j = cond (ltb j symbol) j (suc j)
 

@@ -18,7 +18,8 @@ fn other_value(symbol: usize, j: usize) -> usize
     if j < symbol { j } else { j + 1 }
 }
 
-// The least penalty held for any of the 63 other values; for a number above 63, which is no symbol, of the values 0 to 62.
+// The least penalty held for any of the 63 other values; for a number above 63, which is no symbol, of the values 0 to
+// 62.
 pub(crate) fn least_other(symbol: usize, llrs: &[u16]) -> u16
     ensures { λ r. ⌜ r ≡ leastOther symbol (now (llrs .entry)) ⌝ }
 {

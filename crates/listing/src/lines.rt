@@ -5,9 +5,10 @@ use columns::write_number;
 ghost use mathlib.Core.Path.{_≡_};
 ghost use Rattle.listing.specs.Listing.{placeLine, numberLine};
 
-// The line of a place, from its number, its symbol and the 64 penalties held for its values: four fields of five columns with the place, the symbol, the
-// penalty held for that symbol and the least penalty held for any other value, and a line feed. Any input is taken: an entry that the slice does not have
-// counts as 0, for a number above 63 the other values are 0 to 62, and of a place of more than five digits the last five are written.
+// The line of a place, from its number, its symbol and the 64 penalties held for its values: four fields of five
+// columns with the place, the symbol, the penalty held for that symbol and the least penalty held for any other value,
+// and a line feed. Any input is accepted: an entry that the slice does not have counts as 0, for a number above 63 the
+// other values are 0 to 62, and of a place of more than five digits the last five are written.
 pub fn place_line(place: u32, symbol: u8, llrs: &[u16]) -> [u8; 21]
     ensures { λ r. ⌜ r ≡ placeLine place symbol (now (llrs .entry)) ⌝ }
 {
@@ -23,8 +24,8 @@ pub fn place_line(place: u32, symbol: u8, llrs: &[u16]) -> [u8; 21]
     line
 }
 
-// The line of one number: five columns and a line feed. The clip count and a refusal are printed so. Of a number of more than five digits the last five
-// are written.
+// The line of one number: five columns and a line feed. The clip count and a refusal are printed so. Of a number of
+// more than five digits the last five are written.
 pub fn number_line(v: u32) -> [u8; 6]
     ensures { λ r. ⌜ r ≡ numberLine v ⌝ }
 {

@@ -6,7 +6,9 @@ use native.Mathlib.Numerals.{add-one}
 use native.Mathlib.Omega.{arith}
 use lib.ListN.{length, getD, take, drop, set, length-set}
 use lib.Seq.{drop-cons, take-suc-set, append-snoc}
-use Rattle.polar_code.specs.Code.{Kind, message, frozen, kindOf, messageCount, messagePlaces}
+use Rattle.polar_code.specs.Code.{kindOf, messageCount, messagePlaces}
+use Rattle.polar_code.specs.declared.kinds.Kind.{Kind}
+use Rattle.polar_code.specs.declared.kinds.Kind.the-variants.{Message as message, Frozen as frozen}
 use Rattle.polar.specs.Encode.{symbolAt, restAfter}
 use Rattle.polar.specs.Message.{withPlace, messageOf}
 use Rattle.polar_code.proofs.MapLaws.{places-from}

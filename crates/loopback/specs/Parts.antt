@@ -5,7 +5,7 @@ use mathlib.Core.List.{List}
 use lib.IntN.{ℤ}
 use lib.ListN.{length}
 use Rattle.polar_code.specs.Code.{messagePlaces}
-use Rattle.link.specs.Noiseless.{Sendable}
+use Rattle.link.specs.Noiseless.{Transmission, Sendable}
 
 -- what `write_samples` is given: room for 64 samples a number, and an amplitude that fits in a signed byte
 pub record Sampling (numbers : List ℕ) (amplitude : ℕ) (samples : List ℤ) : Type 0 where
@@ -18,12 +18,12 @@ pub record Reading (map word message : List ℕ) : Type 0 where
   pub room : length message ≡ messagePlaces map
 
 -- what `send` is given: a code, a message, a base and an amplitude that are not refused, and room for the samples
-pub record Sending (n : ℕ) (map cs message : List ℕ) (base amplitude : ℕ) (samples : List ℤ) : Type 0 where
-  pub sendable : Sendable n map cs message base amplitude
-  pub samples-long : length samples ≡ 64 * 2 ^ n
+pub record Sending (s : Transmission) (samples : List ℤ) : Type 0 where
+  pub sendable : Sendable s
+  pub samples-long : length samples ≡ 64 * 2 ^ s .code .n
 
 -- what `send_with` is given: the same, with room for the codeword and for a number for each of its symbols
-pub record SendingWith (n : ℕ) (map cs message : List ℕ) (base amplitude : ℕ) (codeword numbers : List ℕ) (samples : List ℤ) : Type 0 where
-  pub given : Sending n map cs message base amplitude samples
-  pub codeword-long : length codeword ≡ 2 ^ n
-  pub numbers-long : length numbers ≡ 2 ^ n
+pub record SendingWith (s : Transmission) (codeword numbers : List ℕ) (samples : List ℤ) : Type 0 where
+  pub given : Sending s samples
+  pub codeword-long : length codeword ≡ 2 ^ s .code .n
+  pub numbers-long : length numbers ≡ 2 ^ s .code .n

@@ -1,56 +1,65 @@
--- By which number a call of `round_trip` is refused: the rows of document 01's table 'Refused' that it has the input for, and one more.
-use Prim.Native.Nat.{ℕ, _*_, _/_, _^_}
+-- By which number a call of `round_trip` is refused: the rows of document 01's table 'Refused' that it has the input
+-- for, and one more.
+use Prim.Native.Nat.{ℕ, _*_, _^_}
 use mathlib.Core.Path.{_≡_}
 use mathlib.Core.List.{List, [], _∷_, _++_}
 use lib.IntN.{ℤ}
 use lib.ListN.{length}
 use Rattle.refusal.specs.Table.{Row, refusalOf}
 use Rattle.refusal.specs.Tests.{outside}
-use Rattle.refusal.specs.Rows.{lengthRow, qcRow, symbolsRow}
-use Rattle.polar_code.specs.Code.{messagePlaces, layersRow, mapRow, emptyRow, coefsRow}
+use Rattle.refusal.specs.Rows.{lengthRow, symbolsRow}
+use Rattle.polar_code.specs.Code.{messagePlaces, codeSizes}
 use Rattle.ccsk.specs.Chips.{baseRow}
 use Rattle.demapper.specs.Demap.{gainRow}
-use Rattle.decoder_refusal.specs.Refusals.{qmRow}
-use Rattle.link.specs.Noiseless.{ChainInput}
+use Rattle.decoder_refusal.specs.Refusals.{Lent, lentOf, codeRows, bufferRows}
+use Rattle.link.specs.Noiseless.{Transmission, Reception, ChainInput}
 
--- 19: the amplitude is outside 1 to 127. Document 01 has no number for it; this one is document 02's (request 14) for the same fault, after all others
+-- 19: the amplitude is outside 1 to 127. Document 01 has no number for it; this one is document 02's (request 14) for
+-- the same fault, after all others
 abbrev pub amplitudeRow : ℕ → Row
 amplitudeRow amplitude = (19, outside 1 127 amplitude)
 
--- the rows on n and the lengths
-abbrev pub sizeTable : (n : ℕ) (map cs message : List ℕ) (samples : List ℤ) (frame work symbols report decoded : List ℕ) → List Row
-sizeTable n map cs message samples frame work symbols report decoded =
-    layersRow n
-    ∷ lengthRow (length map) (2 ^ n)
-    ∷ lengthRow (length cs) (n * (2 ^ n / 2))
-    ∷ lengthRow (length message) (messagePlaces map)
-    ∷ lengthRow (length samples) (64 * 2 ^ n)
-    ∷ lengthRow (length frame) (64 * 2 ^ n)
-    ∷ lengthRow (length work) (65 * 2 ^ n)
-    ∷ lengthRow (length symbols) (2 ^ n)
-    ∷ lengthRow (length report) (64 * 2 ^ n)
-    ∷ lengthRow (length decoded) (messagePlaces map)
+-- the buffers that a caller of `round_trip` lends to be written: those of the decoder, and beside them those for the
+-- samples, the frame and the decoded message
+pub record TripLent : Type 0 where
+  pub samples : List ℤ
+  pub frame : List ℕ
+  pub decoder : Lent
+  pub decoded : List ℕ
+
+-- those buffers
+abbrev pub tripLentOf : (samples : List ℤ) (frame work symbols report decoded : List ℕ) → TripLent
+tripLentOf samples frame work symbols report decoded =
+    record { samples = samples; frame = frame; decoder = lentOf work symbols report; decoded = decoded }
+
+-- the rows on the lengths of the message and of the buffers, for this many places
+abbrev pub tripRows : (places : ℕ) → Transmission → TripLent → List Row
+tripRows places s lent =
+    lengthRow (length (s .message)) (messagePlaces (s .code .map))
+    ∷ lengthRow (length (lent .samples)) (64 * places)
+    ∷ bufferRows places (lent .frame) (lent .decoder)
+    ++ lengthRow (length (lent .decoded)) (messagePlaces (s .code .map))
     ∷ []
+
+-- the rows on n and the lengths
+abbrev pub sizeTable : Transmission → TripLent → List Row
+sizeTable s lent = codeSizes (s .code) ++ tripRows (2 ^ s .code .n) s lent
 
 -- the rows on the precisions, the code, the message, the base, the gain and the amplitude
-abbrev pub contentTable : (map cs message : List ℕ) (base amplitude top bottom qc qm : ℕ) → List Row
-contentTable map cs message base amplitude top bottom qc qm =
-    qcRow qc
-    ∷ qmRow qc qm
-    ∷ mapRow map
-    ∷ emptyRow map
-    ∷ coefsRow cs
-    ∷ symbolsRow message
-    ∷ baseRow base
-    ∷ gainRow top
-    ∷ gainRow bottom
-    ∷ amplitudeRow amplitude
+abbrev pub contentTable : Transmission → Reception → List Row
+contentTable s r =
+    codeRows (s .code .map) (s .code .coefs) (r .settings)
+    ++ symbolsRow (s .message)
+    ∷ baseRow (s .base)
+    ∷ gainRow (r .top)
+    ∷ gainRow (r .bottom)
+    ∷ amplitudeRow (s .amplitude)
     ∷ []
 
-module _ (n : ℕ) (map cs message : List ℕ) (base amplitude top bottom qc qm : ℕ) (samples : List ℤ) (frame work symbols report decoded : List ℕ) where
+module _ (s : Transmission) (r : Reception) (lent : TripLent) where
   -- all rows
   abbrev pub tripTable : List Row
-  tripTable = sizeTable n map cs message samples frame work symbols report decoded ++ contentTable map cs message base amplitude top bottom qc qm
+  tripTable = sizeTable s lent ++ contentTable s r
 
   -- the number of the refusal, 0 where the call is accepted
   unfoldable pub tripRefusal : ℕ
@@ -58,10 +67,10 @@ module _ (n : ℕ) (map cs message : List ℕ) (base amplitude top bottom qc qm 
 
   -- an input that no row of that table fits
   pub record TripInput : Type 0 where
-    pub chain : ChainInput n map cs message base amplitude top bottom qc qm
-    pub samples-long : length samples ≡ 64 * 2 ^ n
-    pub frame-long : length frame ≡ 64 * 2 ^ n
-    pub work-long : length work ≡ 65 * 2 ^ n
-    pub symbols-long : length symbols ≡ 2 ^ n
-    pub report-long : length report ≡ 64 * 2 ^ n
-    pub decoded-long : length decoded ≡ messagePlaces map
+    pub chain : ChainInput s r
+    pub samples-long : length (lent .samples) ≡ 64 * 2 ^ s .code .n
+    pub frame-long : length (lent .frame) ≡ 64 * 2 ^ s .code .n
+    pub work-long : length (lent .decoder .work) ≡ 65 * 2 ^ s .code .n
+    pub symbols-long : length (lent .decoder .symbols) ≡ 2 ^ s .code .n
+    pub report-long : length (lent .decoder .report) ≡ 64 * 2 ^ s .code .n
+    pub decoded-long : length (lent .decoded) ≡ messagePlaces (s .code .map)

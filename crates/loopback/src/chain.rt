@@ -4,12 +4,14 @@ use crate::refusals::trip_refusal;
 use crate::samples::write_samples;
 use decoder::Answer;
 ghost use mathlib.Core.Path.{_≡_};
-ghost use Rattle.link.specs.Noiseless.{messageSamples};
+ghost use Rattle.link.specs.Noiseless.{transmissionOf, receptionOf, messageSamples};
+ghost use Rattle.loopback.specs.Refusals.{tripLentOf};
 ghost use Rattle.loopback.specs.RoundTrip.{RoundTrip};
 ghost use Rattle.loopback.specs.Parts.{SendingWith, Sending};
 
-// Writes the samples of a message sent without noise: encodes it, spreads its codeword to numbers, and makes the samples of these. Lent besides are
-// buffers for the codeword and for the numbers. No call in it refuses what it is given.
+// Writes the samples of a message sent without noise: encodes it, spreads its codeword to numbers, and makes the
+// samples of these. Lent besides are buffers for the codeword and for the numbers. No call in it refuses what it is
+// given.
 fn send_with(
     n: usize,
     map: &[u8],
@@ -21,8 +23,11 @@ fn send_with(
     numbers: &mut [u64],
     samples: &mut [i8],
 )
-    requires { ⌜ SendingWith n (now map) (now coefs) (now message) base amplitude (now codeword) (now numbers) (now samples) ⌝ }
-    ensures { λ _. ⌜ now (samples .exit) ≡ messageSamples n (now (map .entry)) (now (coefs .entry)) (now (message .entry)) base amplitude ⌝ }
+    requires { ⌜ SendingWith (transmissionOf n (now map) (now coefs) (now message) base amplitude) (now codeword)
+        (now numbers) (now samples) ⌝ }
+    ensures { λ _. ⌜ now (samples .exit)
+        ≡ messageSamples (transmissionOf n (now (map .entry)) (now (coefs .entry)) (now (message .entry)) base
+        amplitude) ⌝ }
 {
     polar::encode(n, map, coefs, message, codeword);
     ccsk::spread(base, codeword, numbers);
@@ -39,8 +44,10 @@ fn send(
     amplitude: u32,
     samples: &mut [i8],
 )
-    requires { ⌜ Sending n (now map) (now coefs) (now message) base amplitude (now samples) ⌝ }
-    ensures { λ _. ⌜ now (samples .exit) ≡ messageSamples n (now (map .entry)) (now (coefs .entry)) (now (message .entry)) base amplitude ⌝ }
+    requires { ⌜ Sending (transmissionOf n (now map) (now coefs) (now message) base amplitude) (now samples) ⌝ }
+    ensures { λ _. ⌜ now (samples .exit)
+        ≡ messageSamples (transmissionOf n (now (map .entry)) (now (coefs .entry)) (now (message .entry)) base
+        amplitude) ⌝ }
 {
     // Room for the longest codeword.
     let mut codeword = [0u8; 256];
@@ -59,15 +66,16 @@ fn send(
     );
 }
 
-// Sends a message without noise and decodes what is received: encodes it by the code with n layers, this map and these coefficients, spreads it by
-// the base, makes the samples +A and -A of an amplitude A from 1 to 127, weighs them with the gain top over bottom at the precision qc, decodes at the
-// internal precision qm, and reads the message from the symbols decided. A probe and a receiver can run it to test themselves: the caller compares the
-// decoded message with the message.
-// Answers what `decode` answers for that frame, with the samples, the frame, the decoder's symbols and report and the decoded message in the buffers
-// lent for them, and the work buffer all zeros; or the lowest refusal of 1, 2, 3, 4, 5, 6, 7, 10, 11 and 19 (the amplitude) that fits, and every buffer
-// as it came.
-// The decoded message is the message where each wrong symbol's penalty is still at least 1 after rounding. That is where, for every shift from 1 to 63,
-// top x A x the number of chips in which it differs from shift 0 is at least bottom; for every base that is not refused 2 x A x top >= bottom is enough.
+// Sends a message without noise and decodes what is received: encodes it by the code with n layers, this map and these
+// coefficients, spreads it by the base, makes the samples +A and -A of an amplitude A from 1 to 127, weighs them with
+// the gain top over bottom at the precision qc, decodes at the internal precision qm, and reads the message from the
+// symbols decided. A probe and a receiver can run it to test themselves: the caller compares the decoded message with
+// the message. Answers what `decode` answers for that frame, with the samples, the frame, the decoder's symbols and
+// report and the decoded message in the buffers lent for them, and the work buffer all zeros; or the lowest refusal of
+// 1, 2, 3, 4, 5, 6, 7, 10, 11 and 19 (the amplitude) that fits, and every buffer as it came. The decoded message is the
+// message where each wrong symbol's penalty is still at least 1 after rounding. That is where, for every shift from 1
+// to 63, top x A x the number of chips in which it differs from shift 0 is at least bottom; for every base that is not
+// refused 2 x A x top >= bottom is enough.
 pub fn round_trip(
     n: usize,
     map: &[u8],
@@ -86,9 +94,13 @@ pub fn round_trip(
     report: &mut [u16],
     decoded: &mut [u8],
 ) -> Answer
-    ensures { λ r. ⌜ RoundTrip n (now (map .entry)) (now (coefs .entry)) (now (message .entry)) base amplitude top bottom qc qm
-        (now (samples .entry)) (now (frame .entry)) (now (work .entry)) (now (symbols .entry)) (now (report .entry)) (now (decoded .entry))
-        (now (samples .exit)) (now (frame .exit)) (now (work .exit)) (now (symbols .exit)) (now (report .exit)) (now (decoded .exit)) r ⌝ }
+    ensures { λ r. ⌜ RoundTrip
+        (transmissionOf n (now (map .entry)) (now (coefs .entry)) (now (message .entry)) base amplitude)
+        (receptionOf top bottom qc qm)
+        (tripLentOf (now (samples .entry)) (now (frame .entry)) (now (work .entry)) (now (symbols .entry))
+        (now (report .entry)) (now (decoded .entry)))
+        (tripLentOf (now (samples .exit)) (now (frame .exit)) (now (work .exit)) (now (symbols .exit))
+        (now (report .exit)) (now (decoded .exit))) r ⌝ }
 {
     let refused = trip_refusal(
         n,

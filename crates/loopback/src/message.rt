@@ -1,4 +1,6 @@
 // The message in a word before the transform.
+use polar_code::Kind;
+use polar_code::kind_of;
 ghost use mathlib.Core.Path.{_≡_};
 ghost use Rattle.polar.specs.Message.{messageOf};
 ghost use Rattle.loopback.specs.Parts.{Reading};
@@ -11,7 +13,8 @@ pub(crate) fn read_message(map: &[u8], word: &[u8], message: &mut [u8])
     let mut next: usize = 0;
     let mut j: usize = 0;
     while j < map.len() {
-        if map[j] == 0 {
+        let kind = kind_of(map[j]);
+        if let Kind::Message = kind {
             message[next] = word[j];
             next += 1;
         }

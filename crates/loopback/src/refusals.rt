@@ -1,7 +1,8 @@
 // The refusals of `round_trip`: the first test that fits, in the order of the table.
 ghost use mathlib.Core.Path.{_≡_};
 ghost use Rattle.refusal.specs.Table.{refusalOf};
-ghost use Rattle.loopback.specs.Refusals.{sizeTable, contentTable, tripRefusal};
+ghost use Rattle.link.specs.Noiseless.{transmissionOf, receptionOf};
+ghost use Rattle.loopback.specs.Refusals.{tripLentOf, sizeTable, contentTable, tripRefusal};
 
 // The refusal by n and the lengths, 0 where none of them is wrong.
 fn size_refusal(
@@ -16,47 +17,25 @@ fn size_refusal(
     report: &[u16],
     decoded: &[u8],
 ) -> u8
-    ensures { λ r. ⌜ r ≡ refusalOf (sizeTable n (now (map .entry)) (now (coefs .entry)) (now (message .entry)) (now (samples .entry)) (now (frame .entry)) (now (work .entry)) (now (symbols .entry)) (now (report .entry)) (now (decoded .entry))) ⌝ }
+    ensures { λ r. ⌜ r ≡ refusalOf (sizeTable
+        (transmissionOf n (now (map .entry)) (now (coefs .entry)) (now (message .entry)) 0 0)
+        (tripLentOf (now (samples .entry)) (now (frame .entry)) (now (work .entry)) (now (symbols .entry))
+        (now (report .entry)) (now (decoded .entry)))) ⌝ }
 {
-    if n < 1 {
-        return 1;
-    }
-    if 8 < n {
-        return 1;
-    }
-    let size: usize = 1 << n;
-    if map.len() != size {
-        return 2;
-    }
-    if coefs.len() != n * (size / 2) {
-        return 2;
-    }
+    let size = polar_code::place_count(n);
     let places = polar_code::message_places(map);
-    if message.len() != places {
-        return 2;
-    }
-    if samples.len() != 64 * size {
-        return 2;
-    }
-    if frame.len() != 64 * size {
-        return 2;
-    }
-    if work.len() != 65 * size {
-        return 2;
-    }
-    if symbols.len() != size {
-        return 2;
-    }
-    if report.len() != 64 * size {
-        return 2;
-    }
-    if decoded.len() != places {
-        return 2;
-    }
-    0
+    let r = polar_code::size_refusal(n, map, coefs);
+    let r = refusal::first(r, 2, message.len() != places);
+    let r = refusal::first(r, 2, samples.len() != 64 * size);
+    let r = refusal::first(r, 2, frame.len() != 64 * size);
+    let r = refusal::first(r, 2, work.len() != 65 * size);
+    let r = refusal::first(r, 2, symbols.len() != size);
+    let r = refusal::first(r, 2, report.len() != 64 * size);
+    refusal::first(r, 2, decoded.len() != places)
 }
 
-// The refusal by the precisions, the code's bytes, the message, the base, the gain and the amplitude, 0 where none of them is wrong.
+// The refusal by the precisions, the code's bytes, the message, the base, the gain and the amplitude, 0 where none of
+// them is wrong.
 fn content_refusal(
     map: &[u8],
     coefs: &[u8],
@@ -68,37 +47,22 @@ fn content_refusal(
     qc: u32,
     qm: u32,
 ) -> u8
-    ensures { λ r. ⌜ r ≡ refusalOf (contentTable (now (map .entry)) (now (coefs .entry)) (now (message .entry)) base amplitude top bottom qc qm) ⌝ }
+    ensures { λ r. ⌜ r ≡ refusalOf (contentTable
+        (transmissionOf 0 (now (map .entry)) (now (coefs .entry)) (now (message .entry)) base amplitude)
+        (receptionOf top bottom qc qm)) ⌝ }
 {
-    if refusal::is_outside(qc, 1, 5) {
-        return 3;
-    }
-    if refusal::is_outside(qm, qc, 13) {
-        return 3;
-    }
-    let by_code = polar_code::code_refusal(map, coefs);
-    if by_code != 0 {
-        return by_code;
-    }
-    if refusal::any_outside(message, 0, 63) {
-        return 7;
-    }
-    if ccsk::turned(base, 32) == base {
-        return 10;
-    }
-    if refusal::is_outside(top, 1, 255) {
-        return 11;
-    }
-    if refusal::is_outside(bottom, 1, 255) {
-        return 11;
-    }
-    if refusal::is_outside(amplitude, 1, 127) {
-        return 19;
-    }
-    0
+    let r = refusal::first(0, 3, refusal::is_outside(qc, 1, 5));
+    let r = refusal::first(r, 3, refusal::is_outside(qm, qc, 13));
+    let r = refusal::or_else(r, polar_code::code_refusal(map, coefs));
+    let r = refusal::first(r, 7, refusal::any_outside(message, 0, 63));
+    let r = refusal::first(r, 10, ccsk::turned(base, 32) == base);
+    let r = refusal::first(r, 11, refusal::is_outside(top, 1, 255));
+    let r = refusal::first(r, 11, refusal::is_outside(bottom, 1, 255));
+    refusal::first(r, 19, refusal::is_outside(amplitude, 1, 127))
 }
 
-// The number by which `round_trip` refuses, 0 where it takes its input: the first test that fits, in the table's order.
+// The number by which `round_trip` refuses, 0 where it accepts its input: the first test that fits, in the table's
+// order.
 pub(crate) fn trip_refusal(
     n: usize,
     map: &[u8],
@@ -117,7 +81,11 @@ pub(crate) fn trip_refusal(
     report: &[u16],
     decoded: &[u8],
 ) -> u8
-    ensures { λ r. ⌜ r ≡ tripRefusal n (now (map .entry)) (now (coefs .entry)) (now (message .entry)) base amplitude top bottom qc qm (now (samples .entry)) (now (frame .entry)) (now (work .entry)) (now (symbols .entry)) (now (report .entry)) (now (decoded .entry)) ⌝ }
+    ensures { λ r. ⌜ r ≡ tripRefusal
+        (transmissionOf n (now (map .entry)) (now (coefs .entry)) (now (message .entry)) base amplitude)
+        (receptionOf top bottom qc qm)
+        (tripLentOf (now (samples .entry)) (now (frame .entry)) (now (work .entry)) (now (symbols .entry))
+        (now (report .entry)) (now (decoded .entry))) ⌝ }
 {
     let refused = size_refusal(
         n,

@@ -9,7 +9,7 @@ use Rattle.vector.proofs.Laws.{getD-tabulate, tabulate-ext}
 use Rattle.gf64.specs.Field.{_⊕_, _⊙_, timesA, lowSix}
 use Rattle.multiples.specs.Multiples.{part, combined}
 use Rattle.gf64.proofs.ProductLaws.{product-one, product-sum, product-zero, product-a}
-use Rattle.gf64.proofs.Table.{all, all-at}
+use Rattle.vector.proofs.All.{all, all-at}
 
 -- ---- sums of six
 

@@ -1,5 +1,5 @@
-// The cases of spreading and of weighing, and what they share: a damaged base, a count of symbols, numbers as given after damage, and how a line
-// is printed.
+// The cases of spreading and of weighing, and what they share: a damaged base, a count of symbols, numbers as given
+// after damage, and how a line is printed.
 use crate::print::print_number;
 use crate::spreading::spread_case;
 use crate::weighing::demap_case;
@@ -46,7 +46,7 @@ pub(crate) fn symbol_count(c: usize) -> usize {
     }
 }
 
-// Prints a number of a buffer where the call took its input; 1 where it is the number that was there before.
+// Prints a number of a buffer where the call accepted its input; 1 where it is the number that was there before.
 pub(crate) fn print_entry(answer: u8, x: u64) -> u64
     ensures { λ r. ⌜ r ≤ 1 ⌝ }
 {

@@ -2,8 +2,8 @@
 use draws::drawn;
 use draws::put;
 
-// Damage to a byte of the map or of the coefficients, at a place that the state picks: damage number `first` puts 2 into the map, those after
-// it 255 into the map, and 0, 64 and 255 into the coefficients. Other numbers do nothing.
+// Damage to a byte of the map or of the coefficients, at a place that the state picks: damage number `first` puts 2
+// into the map, those after it 255 into the map, and 0, 64 and 255 into the coefficients. Other numbers do nothing.
 pub(crate) fn damage_code(
     d: usize,
     first: usize,
@@ -26,7 +26,8 @@ pub(crate) fn damage_code(
     }
 }
 
-// The length of a slice as lent, where needed is the right one: one less for the damage short, one more for the damage after it.
+// The length of a slice as lent, where needed is the right one: one less for the damage short, one more for the damage
+// after it.
 pub(crate) fn lent_length(needed: usize, d: usize, e: usize, short: usize) -> usize {
     if d == short || e == short {
         if needed == 0 {

@@ -1,6 +1,7 @@
-// The damages to a call of the decoder, by number: 1 to 12 a lent length one too short or one too long (map, coefficients, frame, work buffer,
-// symbols, report), 13 to 15 Qc, 16 to 18 Qm, 19 to 23 a byte of the map or of the coefficients, 24 all places frozen, 25 and 26 a penalty too
-// large, 27 to 29 a vector with no zero. Other numbers do nothing. Those up to 24 are damages to a call of the whole chain too.
+// The damages to a call of the decoder, by number: 1 to 12 a lent length one too short or one too long (map,
+// coefficients, frame, work buffer, symbols, report), 13 to 15 Qc, 16 to 18 Qm, 19 to 23 a byte of the map or of the
+// coefficients, 24 all places frozen, 25 and 26 a penalty too large, 27 to 29 a vector with no zero. Other numbers do
+// nothing. Those up to 24 are damages to a call of the whole chain too.
 use crate::code::damage_code;
 use crate::frames::put_number;
 use draws::drawn;

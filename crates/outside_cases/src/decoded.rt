@@ -1,6 +1,7 @@
-// What `decode` answers and leaves, printed. A line 'c': where the call is taken 0, the count of clipped entries, and how many numbers of the
-// work buffer are not 0 afterwards; on a refusal its number, and how many numbers of the work buffer, bytes of the symbols and numbers of the
-// report are as they came. Where the call is taken, a line 'y' with the symbols, and where `whole` is set a line 'r' with the report.
+// What `decode` answers and leaves, printed. A line 'c': where the call is accepted 0, the count of clipped entries,
+// and how many numbers of the work buffer are not 0 afterwards; on a refusal its number, and how many numbers of the
+// work buffer, bytes of the symbols and numbers of the report are as they came. Where the call is accepted, a line 'y'
+// with the symbols, and where `whole` is set a line 'r' with the report.
 use crate::code::lent_length;
 use crate::print::print_bytes;
 use crate::print::print_number;
@@ -67,8 +68,8 @@ pub(crate) fn count_bytes(s: &[u8], x: u8) -> u64
     count
 }
 
-// The lines of a call that was taken.
-fn print_taken(whole: bool, count: u32, work: &[u16], symbols: &[u8], report: &[u16]) {
+// The lines of a call that was accepted.
+fn print_accepted(whole: bool, count: u32, work: &[u16], symbols: &[u8], report: &[u16]) {
     io::write_all(STDOUT_FILENO, b"c 0");
     print_number(count as u64);
     print_number(work.len() as u64 - count_numbers(work, 0));
@@ -94,7 +95,7 @@ fn print_refused(number: u8, work: &[u16], symbols: &[u8], report: &[u16]) {
 // The lines of a call, by its answer.
 fn print_answer(whole: bool, answer: Answer, work: &[u16], symbols: &[u8], report: &[u16]) {
     match answer {
-        Answer::Count(count) => print_taken(whole, count, work, symbols, report),
+        Answer::Count(count) => print_accepted(whole, count, work, symbols, report),
         Answer::Refused(number) => print_refused(number, work, symbols, report),
     }
 }

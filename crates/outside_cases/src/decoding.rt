@@ -1,4 +1,5 @@
-// `decode` on pseudo-random inputs: frames that are taken, of each length, calls with one damage or none, and calls with up to two.
+// `decode` on pseudo-random inputs: frames that are accepted, of each length, calls with one damage or none, and calls
+// with up to two.
 use crate::damages::damage_bytes;
 use crate::damages::damage_frame;
 use crate::damages::drawn_damage;
@@ -34,7 +35,8 @@ fn decode_drawn(call: Call, map: &[u8], coefs: &[u8], frame: &[u16]) {
     );
 }
 
-// Draws a frame for n layers, and decodes it with the damages d and e, at places that are drawn too. Returns the state after that.
+// Draws a frame for n layers, and decodes it with the damages d and e, at places that are drawn too. Returns the state
+// after that.
 fn run_case(state: u64, n: usize, d: usize, e: usize, whole: bool) -> u64 {
     let mut map = [0u8; 257];
     let mut coefs = [0u8; 1025];
@@ -67,13 +69,14 @@ fn run_case(state: u64, n: usize, d: usize, e: usize, whole: bool) -> u64 {
     s8
 }
 
-// The number of layers of a call that is taken, by the case: each from 1 to 8 five times, then those from 1 to 4 again.
+// The number of layers of a call that is accepted, by the case: each from 1 to 8 five times, then those from 1 to 4
+// again.
 pub(crate) fn layers_of(i: usize) -> usize {
     if i < 40 { i % 8 + 1 } else { i % 4 + 1 }
 }
 
-// Draws 60 frames that are taken.
-fn run_taken(state: u64) -> u64 {
+// Draws 60 frames that are accepted.
+fn run_accepted(state: u64) -> u64 {
     let mut last = state;
     let mut i: usize = 0;
     while i < 60 {
@@ -137,5 +140,5 @@ fn run_damaged(state: u64) {
 
 // Draws all cases.
 pub(crate) fn run_cases() {
-    run_damaged(run_alone(run_taken(55)));
+    run_damaged(run_alone(run_accepted(55)));
 }

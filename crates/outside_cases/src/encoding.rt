@@ -1,4 +1,5 @@
-// The encoder on pseudo-random inputs, valid and damaged: for each a line with the answer of `encode` and the buffer lent for the codeword.
+// The encoder on pseudo-random inputs, valid and damaged: for each a line with the answer of `encode` and the buffer
+// lent for the codeword.
 use crate::code::damage_code;
 use crate::code::lent_length;
 use crate::print::print_bytes;
@@ -13,7 +14,8 @@ use draws::put;
 use draws::step;
 use libc::STDOUT_FILENO;
 
-// Damage d to the bytes of the map, the coefficients or the message, at a place that the state picks; most d do nothing.
+// Damage d to the bytes of the map, the coefficients or the message, at a place that the state picks; most d do
+// nothing.
 fn damage(
     d: usize,
     state: u64,

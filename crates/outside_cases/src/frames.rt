@@ -14,7 +14,8 @@ pub(crate) fn put_number(s: &mut [u16], at: usize, x: usize) {
     }
 }
 
-// Draws a message, encodes it into `word`, and returns the state after that. For an n that is to be refused the word stays as it is.
+// Draws a message, encodes it into `word`, and returns the state after that. For an n that is to be refused the word
+// stays as it is.
 pub(crate) fn draw_word(state: u64, n: usize, map: &[u8], coefs: &[u8], word: &mut [u8]) -> u64 {
     let mut message = [0u8; 256];
     let last = draw_bytes(state, &mut message, 256, 0, 64);
@@ -50,8 +51,9 @@ pub(crate) fn largest(qc: u32) -> usize {
     }
 }
 
-// A penalty of at most `most`, which is one less than a power of 2: any for mode 0; mostly 0 or 1 for mode 1; mostly `most` for mode 2. One
-// draw is taken modulo two numbers, 15 or 31 and a power of 2: they have no common divisor but 1, so what one gives leaves the other open.
+// A penalty of at most `most`, which is one less than a power of 2: any for mode 0; mostly 0 or 1 for mode 1; mostly
+// `most` for mode 2. One draw is used modulo two numbers, 15 or 31 and a power of 2: they have no common divisor but
+// 1, so what one gives leaves the other open.
 fn drawn_penalty(mode: usize, state: u64, most: usize) -> usize {
     if mode == 1 && drawn(state, 15) < 13 {
         return drawn(state, 2);
@@ -97,7 +99,8 @@ fn byte_at(s: &[u8], i: usize) -> u8 {
     if i < s.len() { s[i] } else { 0 }
 }
 
-// Draws a frame of `size` places, in a mode drawn for it, and returns the state after that. In mode 2 it is near the frame of the word.
+// Draws a frame of `size` places, in a mode drawn for it, and returns the state after that. In mode 2 it is near the
+// frame of the word.
 pub(crate) fn draw_frame(
     state: u64,
     most: usize,

@@ -1,6 +1,8 @@
-// What `round_trip` answers and leaves, printed. A line 'l': where the call is taken 0, the count of clipped entries, how many numbers of the work buffer
-// are not 0 afterwards, and a checksum each of the samples, the frame and the report; on a refusal its number, a checksum of the samples, and how many
-// entries of each of the five other buffers have changed. Where the call is taken, a line 'm' with the decoded message and a line 'y' with the symbols.
+// What `round_trip` answers and leaves, printed. A line 'l': where the call is accepted 0, the count of clipped
+// entries, how many numbers of the work buffer are not 0 afterwards, and a checksum each of the samples, the frame and
+// the report; on a refusal its number, a checksum of the samples, and how many entries of each of the five other
+// buffers have changed. Where the call is accepted, a line 'm' with the decoded message and a line 'y' with the
+// symbols.
 use crate::code::lent_length;
 use crate::decoded::count_bytes;
 use crate::decoded::count_numbers;
@@ -41,8 +43,8 @@ fn print_other_bytes(s: &[u8]) {
     print_number(s.len() as u64 - count_bytes(s, 255));
 }
 
-// The lines of a call that was taken.
-fn print_taken(
+// The lines of a call that was accepted.
+fn print_accepted(
     count: u32,
     samples: &[i8],
     frame: &[u16],
@@ -96,7 +98,15 @@ fn print_answer(
     decoded: &[u8],
 ) {
     match answer {
-        Answer::Count(count) => print_taken(count, samples, frame, work, symbols, report, decoded),
+        Answer::Count(count) => print_accepted(
+            count,
+            samples,
+            frame,
+            work,
+            symbols,
+            report,
+            decoded,
+        ),
         Answer::Refused(number) => {
             print_refused(number, samples, frame, work, symbols, report, decoded)
         }
@@ -137,8 +147,9 @@ fn trip_lines(
     print_answer(answer, samples, frame, work, symbols, report, decoded);
 }
 
-// The same on buffers with the lengths that the damages leave. Before the call the samples are -7 everywhere, and the other buffers hold 4711 or 255. The
-// message places are counted in the map as lent. No length is above what its array has; the remainders say so.
+// The same on buffers with the lengths that the damages leave. Before the call the samples are -7 everywhere, and the
+// other buffers hold 4711 or 255. The message places are counted in the map as lent. No length is above what its array
+// has; the remainders say so.
 fn trip_buffers(call: Call, map: &[u8], coefs: &[u8], message: &[u8]) {
     let d = call.d;
     let e = call.e;

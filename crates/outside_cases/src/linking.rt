@@ -1,6 +1,7 @@
-// `round_trip` on pseudo-random inputs: calls that are taken, of each length, calls with one damage or none, and calls with two. The damages 1 to 24 are
-// those to a call of the decoder; 25 and 26 are to the base, 27 and 28 to a symbol of the message, 29 to 31 to n, 32 to 35 to the amplitude, 36 to 41
-// to the gain, 42 to Qm, and 43 to 48 a lent length one too short or one too long (message, samples, decoded message).
+// `round_trip` on pseudo-random inputs: calls that are accepted, of each length, calls with one damage or none, and
+// calls with two. The damages 1 to 24 are those to a call of the decoder; 25 and 26 are to the base, 27 and 28 to a
+// symbol of the message, 29 to 31 to n, 32 to 35 to the amplitude, 36 to 41 to the gain, 42 to Qm, and 43 to 48 a lent
+// length one too short or one too long (message, samples, decoded message).
 use crate::damages::damage_bytes;
 use crate::damages::given_three;
 use crate::decoding::layers_of;
@@ -25,7 +26,8 @@ fn damage_message(d: usize, state: u64, count: usize, message: &mut [u8]) {
     }
 }
 
-// Draws a call for n layers, and makes it with the damages d and e, at places that are drawn too. Returns the state after that.
+// Draws a call for n layers, and makes it with the damages d and e, at places that are drawn too. Returns the state
+// after that.
 fn run_case(state: u64, n: usize, d: usize, e: usize) -> u64 {
     let mut map = [0u8; 257];
     let mut coefs = [0u8; 1025];
@@ -45,8 +47,8 @@ fn run_case(state: u64, n: usize, d: usize, e: usize) -> u64 {
     s5
 }
 
-// Draws 60 calls that are taken.
-fn run_taken(state: u64) -> u64 {
+// Draws 60 calls that are accepted.
+fn run_accepted(state: u64) -> u64 {
     let mut last = state;
     let mut i: usize = 0;
     while i < 60 {
@@ -56,8 +58,9 @@ fn run_taken(state: u64) -> u64 {
     last
 }
 
-// A damage of a kind from 0 to 11, in the order of their refusals: n, the lengths that the decoder has too, those of message and samples, that of the
-// decoded message, Qc and Qm, a byte of the map, no message place, a coefficient, a symbol of the message, the base, the gain, the amplitude.
+// A damage of a kind from 0 to 11, in the order of their refusals: n, the lengths that the decoder has too, those of
+// message and samples, that of the decoded message, Qc and Qm, a byte of the map, no message place, a coefficient, a
+// symbol of the message, the base, the gain, the amplitude.
 fn damage_of_kind(kind: usize, state: u64) -> usize {
     match kind {
         0 => 29 + drawn(state, 3) % 3,
@@ -75,7 +78,8 @@ fn damage_of_kind(kind: usize, state: u64) -> usize {
     }
 }
 
-// The first damage of call i: none and then each, one of each kind in turn, and from call 97 on of a kind 1 to 6 after that of the second.
+// The first damage of call i: none and then each, one of each kind in turn, and from call 97 on of a kind 1 to 6 after
+// that of the second.
 fn first_damage(i: usize, state: u64) -> usize {
     if i < 49 {
         return i;
@@ -101,7 +105,8 @@ fn run_with(state: u64, d: usize, e: usize) -> u64 {
     run_case(s, n as usize, d, e)
 }
 
-// Draws 97 calls with one damage or none, and 66 with two: each two kinds once, of the two the one with the higher refusal mostly first.
+// Draws 97 calls with one damage or none, and 66 with two: each two kinds once, of the two the one with the higher
+// refusal mostly first.
 fn run_damaged(state: u64) {
     let mut last = state;
     let mut i: usize = 0;
@@ -115,5 +120,5 @@ fn run_damaged(state: u64) {
 
 // Draws all cases.
 pub(crate) fn run_cases() {
-    run_damaged(run_taken(646));
+    run_damaged(run_accepted(646));
 }

@@ -1,5 +1,6 @@
-// Runs the public calls on pseudo-random inputs, valid and damaged, and prints what they answer and leave. What this must print is in the
-// file stdout, made by tools/outside/cases.py, which draws the same inputs and works them out by programs of its own.
+// Runs the public calls on pseudo-random inputs, valid and damaged, and prints what they answer and leave. What this
+// must print is in the file stdout, made by tools/outside/cases.py, which draws the same inputs and works them out by
+// programs of its own.
 mod chips;
 mod code;
 mod damages;

@@ -1,4 +1,5 @@
-// The numbers of a call of the whole chain: the base, the amplitude, the gain and the precisions, drawn, and as given after two damages.
+// The numbers of a call of the whole chain: the base, the amplitude, the gain and the precisions, drawn, and as given
+// after two damages.
 use crate::chips::damaged_base;
 use crate::chips::halves_alike;
 use crate::damages::given;
@@ -12,7 +13,8 @@ use draws::drawn_base;
 use draws::drawn_number;
 use draws::step;
 
-// The numbers of a call as given: layers, base, amplitude, gain, precisions; two damages; and the state after what was drawn.
+// The numbers of a call as given: layers, base, amplitude, gain, precisions; two damages; and the state after what was
+// drawn.
 pub(crate) struct Call {
     pub(crate) n: usize,
     pub(crate) base: u64,
@@ -26,7 +28,8 @@ pub(crate) struct Call {
     pub(crate) last: u64,
 }
 
-// A base drawn from a state: any; or a row of chips of period 32, 2 or 1 with one chip changed, where a turn by the period differs in two chips only.
+// A base drawn from a state: any; or a row of chips of period 32, 2 or 1 with one chip changed, where a turn by the
+// period differs in two chips only.
 fn sent_base(state: u64) -> u64 {
     let any = drawn_base(state);
     let a = step(after_base(state));
@@ -59,8 +62,9 @@ fn drawn_top(mode: usize, state: u64) -> u32 {
     }
 }
 
-// The bottom of a gain: any for mode 0; high for mode 1; for mode 2 mostly a few times the amplitude, so that it takes a few chips that differ to make a
-// penalty of 1; and for mode 3 such that two chips that differ make a penalty of 1, or of just below it.
+// The bottom of a gain: any for mode 0; high for mode 1; for mode 2 mostly a few times the amplitude, so that it takes
+// a few chips that differ to make a penalty of 1; and for mode 3 such that two chips that differ make a penalty of 1,
+// or of just below it.
 fn drawn_bottom(mode: usize, state: u64, amplitude: u32) -> u32 {
     let small = amplitude % 128;
     match mode {
@@ -74,8 +78,8 @@ fn drawn_bottom(mode: usize, state: u64, amplitude: u32) -> u32 {
     }
 }
 
-// Draws the numbers of a call for n layers. The damages 25 and 26 are to the base, 32 to 35 to the amplitude, 36 to 38 to the top and 39 to 41 to the
-// bottom of the gain, and 42 is a Qm that is far too large.
+// Draws the numbers of a call for n layers. The damages 25 and 26 are to the base, 32 to 35 to the amplitude, 36 to 38
+// to the top and 39 to 41 to the bottom of the gain, and 42 is a Qm that is far too large.
 pub(crate) fn draw_call(state: u64, n: usize, d: usize, e: usize) -> Call {
     let s1 = step(step(step(after_base(state))));
     let s2 = step(step(s1));

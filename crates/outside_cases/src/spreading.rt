@@ -1,5 +1,5 @@
-// `spread` on pseudo-random inputs, valid and damaged: for each a line 's', the answer and the numbers sent, or on a refusal how many numbers
-// of the lent buffer are as they came.
+// `spread` on pseudo-random inputs, valid and damaged: for each a line 's', the answer and the numbers sent, or on a
+// refusal how many numbers of the lent buffer are as they came.
 use crate::chips::damaged_base;
 use crate::chips::print_end;
 use crate::chips::print_entry;

@@ -1,5 +1,5 @@
-// `demap` on pseudo-random inputs, valid and damaged: for each a line 'd' as for `spread`, and a line 'p' with the part that `place_llrs` hands out
-// of the lent buffer.
+// `demap` on pseudo-random inputs, valid and damaged: for each a line 'd' as for `spread`, and a line 'p' with the part
+// that `place_llrs` hands out of the lent buffer.
 use crate::chips::damaged_base;
 use crate::chips::damaged_number;
 use crate::chips::print_end;
@@ -20,7 +20,7 @@ use libc::STDOUT_FILENO;
 // Prints the part of one place.
 fn part_line(llrs: &[u16], place: usize) {
     io::write_all(STDOUT_FILENO, b"p");
-    print_numbers(ccsk::place_llrs(llrs, place));
+    print_numbers(vector::place_llrs(llrs, place));
     io::write_all(STDOUT_FILENO, b"\n");
 }
 

@@ -21,7 +21,8 @@ use draws::lent;
 use draws::lent_numbers;
 use draws::places;
 
-// From the numbers that were spread to the decoded frame. The frame holds 4711 everywhere before it is weighed. Returns the state after the samples.
+// From the numbers that were spread to the decoded frame. The frame holds 4711 everywhere before it is weighed. Returns
+// the state after the samples.
 fn receive(case: Case, map: &[u8], coefs: &[u8], numbers: &[u64], line: &mut [u8]) -> u64 {
     let mut samples = [0i8; 16384];
     let mut frame = [4711u16; 16384];
@@ -37,7 +38,8 @@ fn receive(case: Case, map: &[u8], coefs: &[u8], numbers: &[u64], line: &mut [u8
     last
 }
 
-// From the message to the decoded frame. The codeword and the numbers spread hold 255 and 4711 everywhere before. Returns the state after the samples.
+// From the message to the decoded frame. The codeword and the numbers spread hold 255 and 4711 everywhere before.
+// Returns the state after the samples.
 fn run_chain(case: Case, map: &[u8], coefs: &[u8], message: &[u8], line: &mut [u8]) -> u64 {
     let mut word = [255u8; 256];
     let mut numbers = [4711u64; 256];

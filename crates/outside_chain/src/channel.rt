@@ -16,8 +16,9 @@ fn sent(amplitude: usize, chip: u64) -> usize
     1024 + amplitude % 128
 }
 
-// The bits of a sample: what is sent for the chip with the noise that the state picks added, held within -127 and 127; in some frames a few are -128
-// instead. It is worked out with 1024 added, which leaves the lower eight bits as they are.
+// The bits of a sample: what is sent for the chip with the noise that the state picks added, held within -127 and 127;
+// in some frames a few are -128 instead. It is worked out with 1024 added, which leaves the lower eight bits as they
+// are.
 fn sample_bits(case: Case, state: u64, chip: u64) -> usize {
     if case.lowest && drawn(state, 127) == 0 {
         return 128;

@@ -13,8 +13,8 @@ use draws::put;
 use draws::step;
 ghost use Prim.Native.Nat.{_<_};
 
-// The numbers of a case: layers and precisions; the base; the amplitude, the largest noise and whether a few samples are -128; the gain; and the state after
-// what was drawn.
+// The numbers of a case: layers and precisions; the base; the amplitude, the largest noise and whether a few samples
+// are -128; the gain; and the state after what was drawn.
 pub(crate) struct Case {
     pub(crate) n: usize,
     pub(crate) qc: u32,
@@ -28,8 +28,8 @@ pub(crate) struct Case {
     pub(crate) last: u64,
 }
 
-// Freezes the first places of a map, as many as the state picks; the last place is a message place then. Where it picks none, place 0 of a map with no
-// frozen place.
+// Freezes the first places of a map, as many as the state picks; the last place is a message place then. Where it picks
+// none, place 0 of a map with no frozen place.
 fn freeze(state: u64, map: &mut [u8], size: usize) {
     let first = drawn(state, size);
     if first != 0 {
@@ -93,8 +93,8 @@ fn drawn_bottom(sample: usize, state: u64) -> u32 {
     if bottom < 255 { bottom as u32 } else { 255 }
 }
 
-// Draws the numbers of a case. The amplitude is small in most frames, and the gain such that the penalties are mostly neither all 0 nor all at the cap. In
-// a frame of large samples many reach -127 and 127.
+// Draws the numbers of a case. The amplitude is small in most frames, and the gain such that the penalties are mostly
+// neither all 0 nor all at the cap. In a frame of large samples many reach -127 and 127.
 pub(crate) fn draw_case(state: u64, n: usize, qc: u32, qm: u32) -> Case {
     let s1 = step(after_base(state));
     let s2 = step(s1);

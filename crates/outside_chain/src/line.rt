@@ -4,7 +4,8 @@ use draws::put;
 // The number of bytes of a line: 14 numbers and the line feed.
 pub(crate) const LENGTH: usize = 85;
 
-// The byte in a column: a digit, or a blank before the first digit. `rest` is what the digits to the right leave of the number, of which there are `j`.
+// The byte in a column: a digit, or a blank before the first digit. `rest` is what the digits to the right leave of the
+// number, of which there are `j`.
 fn column(rest: u64, j: usize) -> usize {
     if rest == 0 && j != 0 {
         return 32;

@@ -1,16 +1,18 @@
-// The samples weighed, and the frame decoded. What each call answers, and a checksum of what it leaves, are put into the line.
+// The samples weighed, and the frame decoded. What each call answers, and a checksum of what it leaves, are put into
+// the line.
 use crate::channel::draw_samples;
 use crate::drawing::Case;
 use crate::line::put_field;
 use crate::sums::all_zeros;
-use crate::sums::byte_checksum;
 use decoder::Answer;
+use draws::byte_checksum;
 use draws::checksum;
 use draws::lent;
 use draws::lent_numbers;
 use draws::places;
 
-// Draws the samples of the numbers and weighs them, numbers 7 and 8 of the line. Returns the state after what was drawn.
+// Draws the samples of the numbers and weighs them, numbers 7 and 8 of the line. Returns the state after what was
+// drawn.
 pub(crate) fn weigh_fields(
     case: Case,
     numbers: &[u64],

@@ -1,7 +1,8 @@
-// The message encoded, and the codeword spread. What each call answers, and a checksum of what it leaves, are put into the line.
+// The message encoded, and the codeword spread. What each call answers, and a checksum of what it leaves, are put into
+// the line.
 use crate::line::put_field;
-use crate::sums::byte_checksum;
 use crate::sums::word_checksum;
+use draws::byte_checksum;
 
 // Encodes, numbers 3 and 4 of the line.
 fn encode_fields(

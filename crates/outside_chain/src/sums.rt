@@ -1,21 +1,5 @@
-// Checksums of bytes and of 64-bit numbers, and whether a buffer is all zeros.
+// Checksums of 64-bit numbers, and whether a buffer is all zeros.
 use draws::checksum_with;
-
-// A byte as a number to sum up.
-fn wide(x: u8) -> u64 {
-    x as u64
-}
-
-// The checksum of bytes.
-pub(crate) fn byte_checksum(s: &[u8]) -> u64 {
-    let mut sum: u64 = 1;
-    let mut i: usize = 0;
-    while i < s.len() {
-        sum = checksum_with(sum, wide(s[i]));
-        i += 1;
-    }
-    sum
-}
 
 // A checksum with one more 64-bit number: its 16-bit quarters, the highest first.
 fn with_quarters(sum: u64, x: u64) -> u64 {

@@ -4,8 +4,8 @@ use crate::line::same_bytes;
 use crate::parts::rest;
 use libc::STDOUT_FILENO;
 
-// The state after the last case, how many cases were run, how many of their lines agree, and the number of the first case that does not, counted from 1,
-// or 0.
+// The state after the last case, how many cases were run, how many of their lines agree, and the number of the first
+// case that does not, counted from 1, or 0.
 pub(crate) struct Tally {
     pub(crate) state: u64,
     pub(crate) cases: usize,
@@ -50,8 +50,8 @@ fn print_fault(words: &[u8], x: usize) {
     io::write_all(STDOUT_FILENO, b"\n");
 }
 
-// Prints how many lines agree, and of how many cases. Where one does not, or the input has `count` bytes and so more than the lines of the cases, a line says
-// so.
+// Prints how many lines agree, and of how many cases. Where one does not, or the input has `count` bytes and so more
+// than the lines of the cases, a line says so.
 pub(crate) fn print_tally(tally: Tally, count: usize) {
     io::print_decimal(STDOUT_FILENO, tally.agreed as u64);
     io::write_all(STDOUT_FILENO, b" of ");

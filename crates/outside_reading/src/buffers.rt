@@ -1,5 +1,4 @@
-// The buffers that are lent to the calls: what they hold before, and checksums of what they hold after.
-use draws::checksum_with;
+// The buffers that are lent to the calls: what they hold before.
 
 // The byte at an index before a call: above all that a reader writes.
 fn byte_before(i: usize) -> u8 {
@@ -27,20 +26,4 @@ pub(crate) fn fill_numbers(s: &mut [u16]) {
         s[i] = number_before(i);
         i += 1;
     }
-}
-
-// A byte as a number to sum up.
-fn wide(x: u8) -> u64 {
-    x as u64
-}
-
-// The checksum of bytes.
-pub(crate) fn byte_checksum(s: &[u8]) -> u64 {
-    let mut sum: u64 = 1;
-    let mut i: usize = 0;
-    while i < s.len() {
-        sum = checksum_with(sum, wide(s[i]));
-        i += 1;
-    }
-    sum
 }

@@ -1,5 +1,6 @@
-// `read_frame_line`: a line 'l' with the number of the refusal or 0, and a checksum of the output. `feed_line` and `end_frame`: a line 'f' with the verdict
-// after each line of a file and a checksum of the output lent for it; and the verdict at the end.
+// `read_frame_line`: a line 'l' with the number of the refusal or 0, and a checksum of the output. `feed_line` and
+// `end_frame`: a line 'f' with the verdict after each line of a file and a checksum of the output lent for it; and the
+// verdict at the end.
 use crate::buffers::fill_numbers;
 use crate::print::print_bytes;
 use crate::print::print_number;
@@ -23,7 +24,8 @@ pub(crate) fn run_line(bytes: &[u8], length: usize) {
     read_into(bytes, lent_numbers(&mut output, length));
 }
 
-// Feeds a line to an output, which is filled before, and prints the verdict and a checksum of the output. Returns the verdict.
+// Feeds a line to an output, which is filled before, and prints the verdict and a checksum of the output. Returns the
+// verdict.
 fn feed_into(verdict: u8, line: &[u8], output: &mut [u16]) -> u8 {
     fill_numbers(output);
     let next = frame_file::feed_line(verdict, line, output);

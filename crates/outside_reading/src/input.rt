@@ -1,6 +1,8 @@
-// The input: the cases. It begins with how many they are, and each has a head of four numbers and then its bytes. A number is two bytes, the higher one first.
+// The input: the cases. It begins with how many they are, and each has a head of four numbers and then its bytes. A
+// number is two bytes, the higher one first.
 
-// The head of a case: which call it is for, two numbers that the call or its buffers are given by, and how many bytes follow.
+// The head of a case: which call it is for, two numbers that the call or its buffers are given by, and how many bytes
+// follow.
 pub(crate) struct Case {
     pub(crate) kind: u16,
     pub(crate) first: u16,

@@ -1,6 +1,6 @@
-// The readers of sheets and frames and the lines of a listing, on the cases that stand in the file stdin, which tools/outside/reading_cases.py makes. A line is printed
-// for each case: what the call answers and checksums of what it leaves, or the line that it makes. The file stdout has the lines that the outside program
-// gives for the same cases.
+// The readers of sheets and frames and the lines of a listing, on the cases that stand in the file stdin, which
+// tools/outside/reading_cases.py makes. A line is printed for each case: what the call answers and checksums of what it
+// leaves, or the line that it makes. The file stdout has the lines that the outside program gives for the same cases.
 mod buffers;
 mod cases;
 mod frames;

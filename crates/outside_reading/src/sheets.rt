@@ -1,8 +1,9 @@
-// `read_sheet`: a line 's' with the number of the refusal or 0, n or 0, and checksums of the map buffer and of the coefficient buffer.
-use crate::buffers::byte_checksum;
+// `read_sheet`: a line 's' with the number of the refusal or 0, n or 0, and checksums of the map buffer and of the
+// coefficient buffer.
 use crate::buffers::fill_bytes;
 use crate::print::print_bytes;
 use crate::print::print_number;
+use draws::byte_checksum;
 use draws::lent;
 use sheet::Answer;
 

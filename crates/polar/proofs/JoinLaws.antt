@@ -7,9 +7,10 @@ use native.Mathlib.Omega.{arith}
 use lib.ListN.{length, getD, set}
 use Rattle.gf64.specs.Field.{_⊕_, _⊙_}
 use Rattle.polar.specs.Join.{Halves}
-use Rattle.polar.proofs.Numbers.{lt-or-le, getD-any, both-long, both-first, both-second, both-other}
+use Rattle.vector.proofs.Entries.{getD-any, both-long, both-first, both-second, both-other}
+use Rattle.polar.proofs.Numbers.{lt-or-le}
 
--- kernel s has turned the word into `after`
+-- kernel s has made `after` of the word
 abbrev pub Done : (half start : ℕ) (cs word after : List ℕ) (s : ℕ) → Type 0
 Done half start cs word after s =
     (getD after s 0 ≡ getD word s 0 ⊕ getD word (half + s) 0) × (getD after (half + s) 0 ≡ getD cs (start + s) 1 ⊙ getD word (half + s) 0)

@@ -11,8 +11,9 @@ use Rattle.gf64.specs.Field.{_⊕_, _⊙_}
 use Rattle.gf64.proofs.SumLaws.{sum-lt}
 use Rattle.gf64.proofs.ProductLaws.{product-lt}
 use Rattle.polar_code.specs.Code.{IsWord}
-use Rattle.polar.specs.Transform.{theta, phi, coefficient, atKernel, atKernels, atLayer, layer, layers, Turned}
-use Rattle.polar.proofs.Numbers.{lt-or-le, getD-each, both-first, both-second, both-other}
+use Rattle.polar.specs.Transform.{theta, phi, coefficient, atKernel, atKernels, atLayer, layer, layers, KernelMade}
+use Rattle.vector.proofs.Entries.{getD-each, both-first, both-second, both-other}
+use Rattle.polar.proofs.Numbers.{lt-or-le}
 use Rattle.polar.proofs.Kernels.{theta-theta, theta-phi, phi-phi, theta-lt-phi, phi-lt, theta-lt, one-kernel}
 
 -- kernel t of layer l has made y from x at its two places, by its functions f and g
@@ -141,11 +142,11 @@ layers-long n zero cs u = refl
 layers-long n (suc k) cs u = layer-long n (n - k) cs (layers n k cs u) ∙ layers-long n k cs u
 
 -- a layer turns the places of each of its kernels
-pub layer-turned : (n d m : ℕ) (e : d + suc m ≡ n) (cs x : List ℕ) → length x ≡ 2 ^ n → (t : ℕ) → t < 2 ^ n / 2 → Turned n (suc d) t cs x (layer n (suc d) cs x)
+pub layer-kernel : (n d m : ℕ) (e : d + suc m ≡ n) (cs x : List ℕ) → length x ≡ 2 ^ n → (t : ℕ) → t < 2 ^ n / 2 → KernelMade n (suc d) t cs x (layer n (suc d) cs x)
 unfolding layer
-layer-turned n d m e cs x long t l =
+layer-kernel n d m e cs x long t l =
     let v = layer-made 0 n d m e (λ t p r. p ⊕ r) (λ t p r. coefficient n (suc d) t cs ⊙ r) x long t l in
-    record { sum = v .at-theta; scaled = v .at-phi }
+    record { sum = v .at-theta; product = v .at-phi }
 
 -- every entry of a list is a symbol, and so is the 0 past its end
 abbrev Symbols : List ℕ → Type 0

@@ -8,5 +8,4 @@ pub mod ByHalves
 pub mod OneToOne
 pub mod JoinLaws
 pub mod BlockLaws
-pub mod FourLaws
 pub mod EncodeLaws

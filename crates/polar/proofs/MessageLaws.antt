@@ -9,7 +9,9 @@ use native.Mathlib.Omega.{arith}
 use lib.Dec.{eqb, lit<}
 use lib.ListN.{length, getD, take, drop, set, length-set}
 use lib.Seq.{drop-cons, drop-drop, getD-drop, take-suc-set, append-snoc}
-use Rattle.polar_code.specs.Code.{Kind, message, frozen, kindOf, messageCount, messagePlaces}
+use Rattle.polar_code.specs.Code.{kindOf, messageCount, messagePlaces}
+use Rattle.polar_code.specs.declared.kinds.Kind.{Kind}
+use Rattle.polar_code.specs.declared.kinds.Kind.the-variants.{Message as message, Frozen as frozen}
 use Rattle.polar_code.proofs.MapLaws.{places-from}
 use Rattle.polar.specs.Encode.{symbolAt, restAfter, wordBefore}
 use Rattle.polar.specs.Message.{withPlace, messageOf}

@@ -13,7 +13,7 @@ use Rattle.polar_code.specs.Code.{Coefficients, IsWord}
 use Rattle.polar.specs.Transform.{transform}
 use Rattle.polar.specs.Tree.{Tree, map2, All, leaves, treeOf, at}
 use Rattle.polar.specs.Halves.{Coefs, join, transformTree, coefsAt, blockTransform}
-use Rattle.polar.proofs.Numbers.{getD-each}
+use Rattle.vector.proofs.Entries.{getD-each}
 use Rattle.polar.proofs.TreeLaws.{map2-at, ext-at, all-by, all-at, length-leaves, treeOf-leaves, leaves-treeOf, all-treeOf, all-leaves}
 use Rattle.polar.proofs.LayerLaws.{layers-word}
 use Rattle.polar.proofs.ByHalves.{by-halves}

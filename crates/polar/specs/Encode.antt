@@ -1,14 +1,16 @@
 -- What `encode` promises.
-use Prim.Native.Nat.{ℕ, _*_, _/_, _^_, _<_}
+use Prim.Native.Nat.{ℕ, _^_, _<_}
 use mathlib.Core.Path.{_≡_}
 use mathlib.Core.Bool.{cond}
-use mathlib.Core.List.{List, [], _∷_}
+use mathlib.Core.List.{List, [], _∷_, _++_}
 use lib.Dec.{eqb}
 use lib.ListN.{length, getD, drop}
 use Rattle.refusal.specs.Table.{Row, refusalOf}
 use Rattle.refusal.specs.Tests.{Within}
 use Rattle.refusal.specs.Rows.{lengthRow, symbolsRow}
-use Rattle.polar_code.specs.Code.{Kind, message, frozen, kindOf, messagePlaces, layersRow, mapRow, emptyRow, coefsRow, IsCode}
+use Rattle.polar_code.specs.Code.{Code, kindOf, messagePlaces, codeSizes, codeTable, IsCode}
+use Rattle.polar_code.specs.declared.kinds.Kind.{Kind}
+use Rattle.polar_code.specs.declared.kinds.Kind.the-variants.{Message as message, Frozen as frozen}
 use Rattle.polar.specs.Transform.{transform}
 
 -- what a place of a kind holds: the next message symbol, or its own
@@ -27,40 +29,36 @@ wordBefore [] symbols = []
 wordBefore (byte ∷ map) symbols = symbolAt (kindOf byte) symbols ∷ wordBefore map (restAfter (kindOf byte) symbols)
 
 -- the codeword of a message: the transform of the word before it
-unfoldable pub codewordOf : (n : ℕ) → List ℕ → List ℕ → List ℕ → List ℕ
-codewordOf n map cs symbols = transform n cs (wordBefore map symbols)
+unfoldable pub codewordOf : Code → List ℕ → List ℕ
+codewordOf code symbols = transform (code .n) (code .coefs) (wordBefore (code .map) symbols)
+
+-- the rows on the message and the buffer, for this many places, and on the code's bytes
+abbrev pub encodeRows : (places : ℕ) → Code → (symbols buffer : List ℕ) → List Row
+encodeRows places code symbols buffer =
+    lengthRow (length symbols) (messagePlaces (code .map))
+    ∷ lengthRow (length buffer) places
+    ∷ codeTable (code .map) (code .coefs) ++ symbolsRow symbols ∷ []
 
 -- the rows of document 01's table that `encode` has the input for, in its order
-abbrev pub encodeTable : (n : ℕ) → List ℕ → List ℕ → List ℕ → List ℕ → List Row
-encodeTable n map cs symbols buffer =
-    layersRow n
-    ∷ lengthRow (length map) (2 ^ n)
-    ∷ lengthRow (length cs) (n * (2 ^ n / 2))
-    ∷ lengthRow (length symbols) (messagePlaces map)
-    ∷ lengthRow (length buffer) (2 ^ n)
-    ∷ mapRow map
-    ∷ emptyRow map
-    ∷ coefsRow cs
-    ∷ symbolsRow symbols
-    ∷ []
+abbrev pub encodeTable : Code → (symbols buffer : List ℕ) → List Row
+encodeTable code symbols buffer = codeSizes code ++ encodeRows (2 ^ code .n) code symbols buffer
 
 -- what no row of that table fits
-pub record Encodable (n : ℕ) (map cs symbols buffer : List ℕ) : Type 0 where
-  pub code : IsCode n map cs
-  pub message-long : length symbols ≡ messagePlaces map
+pub record Encodable (code : Code) (symbols buffer : List ℕ) : Type 0 where
+  pub is-code : IsCode code
+  pub message-long : length symbols ≡ messagePlaces (code .map)
   pub message-symbols : (i : ℕ) → i < length symbols → Within 0 63 (getD symbols i 0)
-  pub buffer-long : length buffer ≡ 2 ^ n
+  pub buffer-long : length buffer ≡ 2 ^ code .n
 
--- the number that `encode` returns, 0 where it takes its input
-unfoldable pub encodeRefusal : (n : ℕ) → List ℕ → List ℕ → List ℕ → List ℕ → ℕ
-encodeRefusal n map cs symbols buffer = refusalOf (encodeTable n map cs symbols buffer)
+-- the number that `encode` returns, 0 where it accepts its input
+unfoldable pub encodeRefusal : Code → (symbols buffer : List ℕ) → ℕ
+encodeRefusal code symbols buffer = refusalOf (encodeTable code symbols buffer)
 
 -- what the lent buffer holds afterwards: the codeword, or on a refusal what it held
-unfoldable pub encodeBuffer : (n : ℕ) → List ℕ → List ℕ → List ℕ → List ℕ → List ℕ
-encodeBuffer n map cs symbols buffer =
-    cond (eqb (encodeRefusal n map cs symbols buffer) 0) (codewordOf n map cs symbols) buffer
+unfoldable pub encodeBuffer : Code → (symbols buffer : List ℕ) → List ℕ
+encodeBuffer code symbols buffer = cond (eqb (encodeRefusal code symbols buffer) 0) (codewordOf code symbols) buffer
 
 -- the promise: the answer r and the buffer at exit, for every input
-pub record Encoded (n : ℕ) (map cs symbols buffer after : List ℕ) (r : ℕ) : Type 0 where
-  pub answer : r ≡ encodeRefusal n map cs symbols buffer
-  pub codeword : after ≡ encodeBuffer n map cs symbols buffer
+pub record Encoded (code : Code) (symbols buffer after : List ℕ) (r : ℕ) : Type 0 where
+  pub answer : r ≡ encodeRefusal code symbols buffer
+  pub codeword : after ≡ encodeBuffer code symbols buffer

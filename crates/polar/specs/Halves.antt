@@ -1,5 +1,6 @@
--- The transform by halves: a word of 2^m places is made from two words of half the length. A proof device, in which the functions that
--- `encode` calls say what they do; `transform`, by layers, is the definition, and proofs/ByHalves shows that the two agree.
+-- The transform by halves: a word of 2^m places is made from two words of half the length. A proof device, in which
+-- the functions that `encode` calls say what they do; `transform`, by layers, is the definition, and proofs/ByHalves
+-- shows that the two agree.
 use Prim.Native.Nat.{ℕ, zero, suc, _+_, _/_, _^_}
 use mathlib.Core.List.{List}
 use lib.ListN.{take, drop}
@@ -20,12 +21,15 @@ unfoldable pub transformTree : (m : ℕ) → Coefs m → Tree ℕ m → Tree ℕ
 transformTree zero h u = u
 transformTree (suc m) h u = join m (h .0) (transformTree m (h .1) (u .0)) (transformTree m (h .2) (u .1))
 
--- the coefficients of a block of 2^m places as they lie in the list of all: those that join its halves from `start` on, those of
--- the next layer `stride` further on
+-- the coefficients of a block of 2^m places as they lie in the list of all: those that join its halves from `start`
+-- on, those of the next layer `stride` further on
 unfoldable pub coefsAt : (m start stride : ℕ) → List ℕ → Coefs m
 coefsAt zero start stride cs = tt
-coefsAt (suc m) start stride cs =
-    (treeOf 1 m (take (2 ^ m) (drop start cs)), coefsAt m (start + stride) stride cs, coefsAt m (start + stride + 2 ^ m / 2) stride cs)
+coefsAt (suc m) start stride cs = (
+  treeOf 1 m (take (2 ^ m) (drop start cs)),
+  coefsAt m (start + stride) stride cs,
+  coefsAt m (start + stride + 2 ^ m / 2) stride cs,
+)
 
 -- such a block, transformed
 unfoldable pub blockTransform : (m start stride : ℕ) → List ℕ → List ℕ → List ℕ

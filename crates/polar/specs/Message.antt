@@ -2,7 +2,9 @@
 use Prim.Native.Nat.{ℕ}
 use mathlib.Core.List.{List, [], _∷_}
 use lib.ListN.{getD, drop}
-use Rattle.polar_code.specs.Code.{Kind, message, frozen, kindOf}
+use Rattle.polar_code.specs.Code.{kindOf}
+use Rattle.polar_code.specs.declared.kinds.Kind.{Kind}
+use Rattle.polar_code.specs.declared.kinds.Kind.the-variants.{Message as message, Frozen as frozen}
 
 -- the message symbols from a place on: its own symbol s before those of the later places, if it is a message place
 unfoldable pub withPlace : Kind → ℕ → List ℕ → List ℕ

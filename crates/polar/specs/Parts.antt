@@ -8,7 +8,8 @@ use Rattle.polar_code.specs.Code.{messagePlaces}
 -- the coefficients of a block (Halves.coefsAt) are among n
 unfoldable pub Room : (m start stride n : ℕ) → Type 0
 Room zero start stride n = Unit {0}
-Room (suc m) start stride n = (start + 2 ^ m ≤ n) × Room m (start + stride) stride n × Room m (start + stride + 2 ^ m / 2) stride n
+Room (suc m) start stride n =
+    (start + 2 ^ m ≤ n) × Room m (start + stride) stride n × Room m (start + stride + 2 ^ m / 2) stride n
 
 -- what `transform_block` is given
 pub record Block (m half start stride : ℕ) (cs word : List ℕ) : Type 0 where

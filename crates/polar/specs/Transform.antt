@@ -14,12 +14,13 @@ theta n l t = 2 * t - t % 2 ^ (n - l)
 unfoldable pub phi : (n l t : ℕ) → ℕ
 phi n l t = theta n l t + 2 ^ (n - l)
 
--- the coefficient h of kernel t of layer l (a code that is taken has it; the 1 is never reached)
+-- the coefficient h of kernel t of layer l (a code that is accepted has it; the 1 is never reached)
 unfoldable pub coefficient : (n l t : ℕ) → List ℕ → ℕ
 coefficient n l t cs = getD cs ((l - 1) * (2 ^ n / 2) + t) 1
 
 module _ {A : Type 0} (d : A) where
-  -- kernel t of layer l on a list with something for each place: what stands at θ and φ becomes what f and g make of the two
+  -- kernel t of layer l on a list with something for each place: what stands at θ and φ becomes what f and g make of
+  -- the two
   unfoldable pub atKernel : (n l t : ℕ) → (A → A → A) → (A → A → A) → List A → List A
   atKernel n l t f g x =
       let p = getD x (theta n l t) d in
@@ -55,7 +56,7 @@ pub record OneKernel (n l j : ℕ) : Type 0 where
   pub joins : (theta n l number ≡ j) ⊎ (phi n l number ≡ j)
   pub only : (t : ℕ) → (theta n l t ≡ j) ⊎ (phi n l t ≡ j) → t ≡ number
 
--- kernel t of layer l has turned the word x into y at its two places
-pub record Turned (n l t : ℕ) (cs x y : List ℕ) : Type 0 where
+-- kernel t of layer l has made y of the word x at its two places
+pub record KernelMade (n l t : ℕ) (cs x y : List ℕ) : Type 0 where
   pub sum : getD y (theta n l t) 0 ≡ getD x (theta n l t) 0 ⊕ getD x (phi n l t) 0
-  pub scaled : getD y (phi n l t) 0 ≡ coefficient n l t cs ⊙ getD x (phi n l t) 0
+  pub product : getD y (phi n l t) 0 ≡ coefficient n l t cs ⊙ getD x (phi n l t) 0

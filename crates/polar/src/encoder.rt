@@ -4,48 +4,30 @@ use crate::transform::transform_block;
 use polar_code::code_refusal;
 use polar_code::message_places;
 use polar_code::place_count;
+use polar_code::size_refusal;
 ghost use mathlib.Core.Path.{_≡_};
+ghost use Rattle.polar_code.specs.Code.{codeOf};
 ghost use Rattle.polar.specs.Encode.{encodeRefusal, Encoded};
 
-// The number by which `encode` refuses, 0 where it takes its input: the first test that fits, in document 01's order.
+// The number by which `encode` refuses, 0 where it accepts its input: the first test that fits, in document
+// 01's order.
 fn encode_refusal(n: usize, map: &[u8], coefs: &[u8], message: &[u8], codeword: &[u8]) -> u8
-    ensures { λ r. ⌜ r ≡ encodeRefusal n (now (map .entry)) (now (coefs .entry)) (now (message .entry)) (now (codeword .entry)) ⌝ }
+    ensures { λ r. ⌜ r ≡ encodeRefusal (codeOf n (now (map .entry)) (now (coefs .entry))) (now (message .entry))
+        (now (codeword .entry)) ⌝ }
 {
-    if n < 1 {
-        return 1;
-    }
-    if 8 < n {
-        return 1;
-    }
-    let size = place_count(n);
-    if map.len() != size {
-        return 2;
-    }
-    if coefs.len() != n * (size / 2) {
-        return 2;
-    }
-    let places = message_places(map);
-    if message.len() != places {
-        return 2;
-    }
-    if codeword.len() != size {
-        return 2;
-    }
-    let by_code = code_refusal(map, coefs);
-    if by_code != 0 {
-        return by_code;
-    }
-    if refusal::any_outside(message, 0, 63) {
-        7
-    } else {
-        0
-    }
+    let r = size_refusal(n, map, coefs);
+    let r = refusal::first(r, 2, message.len() != message_places(map));
+    let r = refusal::first(r, 2, codeword.len() != place_count(n));
+    let r = refusal::or_else(r, code_refusal(map, coefs));
+    refusal::first(r, 7, refusal::any_outside(message, 0, 63))
 }
 
-// Encodes a message: its symbols fill the message places of the map, and the transform by n layers turns that word into the codeword.
-// Returns 0 and the codeword in the buffer lent for it; or the lowest refusal of 1, 2, 4, 5, 6 and 7 that fits, and the buffer as it came.
+// Encodes a message: its symbols fill the message places of the map, and the transform by n layers turns that word into
+// the codeword. Returns 0 and the codeword in the buffer lent for it; or the lowest refusal of 1, 2, 4, 5, 6 and 7 that
+// fits, and the buffer as it came.
 pub fn encode(n: usize, map: &[u8], coefs: &[u8], message: &[u8], codeword: &mut [u8]) -> u8
-    ensures { λ r. ⌜ Encoded n (now (map .entry)) (now (coefs .entry)) (now (message .entry)) (now (codeword .entry)) (now (codeword .exit)) r ⌝ }
+    ensures { λ r. ⌜ Encoded (codeOf n (now (map .entry)) (now (coefs .entry))) (now (message .entry))
+        (now (codeword .entry)) (now (codeword .exit)) r ⌝ }
 {
     let refused = encode_refusal(n, map, coefs, message, codeword);
     if refused != 0 {

@@ -21,29 +21,9 @@ fn join_kernels(half: usize, start: usize, coefs: &[u8], word: &mut [u8])
     }
 }
 
-// The transform of a block of four places by its two layers, with no loop: two kernels in each, of neighbours and then of the halves.
-fn transform_four(start: usize, stride: usize, coefs: &[u8], word: &mut [u8])
-    requires { ⌜ Block 2 2 start stride (now coefs) (now word) ⌝ }
-    ensures { λ _. ⌜ now (word .exit) ≡ blockTransform 2 start stride (now (coefs .entry)) (now (word .entry)) ⌝ }
-{
-    let first = start + stride;
-    let a = word[0];
-    let b = word[1];
-    let c = word[2];
-    let d = word[3];
-    let sum = c ^ d;
-    let left = gf64::product(coefs[first], b);
-    let right = gf64::product(coefs[first + 1], d);
-    let third = gf64::product(coefs[start], sum);
-    let fourth = gf64::product(coefs[start + 1], right);
-    word[0] = (a ^ b) ^ sum;
-    word[1] = left ^ right;
-    word[2] = third;
-    word[3] = fourth;
-}
-
-// The transform of a block of 2^layers places, half of them in each half: first each half by itself, one layer less, then the
-// kernels that join them. Those have their coefficients from start on, the next layer's come stride further on.
+// The transform of a block of 2^layers places, half of them in each half: first each half by itself, one layer less,
+// then the kernels that join them. Those have their coefficients from start on, the next layer's come stride further
+// on. A block of one place, with no layer, stays as it is.
 pub(crate) fn transform_block(
     layers: usize,
     half: usize,
@@ -56,10 +36,6 @@ pub(crate) fn transform_block(
     ensures { λ _. ⌜ now (word .exit) ≡ blockTransform layers start stride (now (coefs .entry)) (now (word .entry)) ⌝ }
 {
     if layers == 0 {
-        return;
-    }
-    if layers == 2 {
-        transform_four(start, stride, coefs, word);
         return;
     }
     let quarter = half / 2;
@@ -77,8 +53,9 @@ pub(crate) fn transform_block(
     join_kernels(half, start, coefs, word);
 }
 
-// Joins the two halves of a word by the kernels between them: kernel t has the places t and half + t, and coefficient start + t. Where the
-// word is not two halves of at most 128 places, or the coefficients are not all there or more than 1,024, nothing is written.
+// Joins the two halves of a word by the kernels between them: kernel t has the places t and half + t, and coefficient
+// start + t. Where the word is not two halves of at most 128 places, or the coefficients are not all there or more
+// than 1,024, nothing is written.
 pub fn join_halves(half: usize, start: usize, coefs: &[u8], word: &mut [u8])
     ensures { λ _. ⌜ HalvesJoined half start (now (coefs .entry)) (now (word .entry)) (now (word .exit)) ⌝ }
 {

@@ -1,4 +1,5 @@
--- The sizes of a code as the functions `place_count` and `kernel_count` give them, which take any number of layers. No code that is taken has more than 8.
+-- The sizes of a code as the functions `place_count` and `kernel_count` give them, which take any number of layers. No
+-- code that is accepted has more than 8.
 use Prim.Native.Nat.{ℕ, _*_, _/_, _^_, min}
 
 -- N = 2^n; that of 8 layers for more

@@ -1,3 +1,5 @@
 pub mod Laws
+pub mod WalkLaws
 pub mod Within
 pub mod AnyTo
+pub mod Among

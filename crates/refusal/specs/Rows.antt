@@ -1,4 +1,5 @@
--- Rows of document 01's table 'Refused' that calls of several crates have, but for those that judge a code (polar_code: Code).
+-- Rows of document 01's table 'Refused' that calls of several crates have, but for those that judge a code (polar_code:
+-- Code).
 use Prim.Native.Nat.{ℕ}
 use mathlib.Core.List.{List}
 use Rattle.refusal.specs.Table.{Row}

@@ -9,7 +9,7 @@ use mathlib.Core.List.{List, [], _∷_}
 abbrev pub Row : Type 0
 Row = ℕ × Bool
 
--- the number of the first row whose test fits, 0 where none does: 0 is 'taken'
+-- the number of the first row whose test fits, 0 where none does: 0 is 'accepted'
 unfoldable pub refusalOf : List Row → ℕ
 refusalOf [] = 0
 refusalOf (r ∷ rs) = cond (r .1) (r .0) (refusalOf rs)
@@ -24,7 +24,7 @@ abbrev pub NoneFits : List Row → Type 0
 NoneFits [] = Unit {0}
 NoneFits (r ∷ rs) = (r .1 ≡ false) × NoneFits rs
 
--- no row has the number 0, which is kept for 'taken'
+-- no row has the number 0, which is kept for 'accepted'
 abbrev pub Numbered : List Row → Type 0
 Numbered [] = Unit {0}
 Numbered (r ∷ rs) = (0 < r .0) × Numbered rs

@@ -7,7 +7,7 @@ use native.Mathlib.Omega.{arith}
 use lib.ListN.{length, getD, set, length-set}
 use lib.Seq.{getD-set-same, getD-set-other}
 use Rattle.vector.proofs.Laws.{Filled, fill-more}
-use Rattle.reorder.specs.Parts.{Mapped}
+use Rattle.reorder.specs.Order.{Mapped}
 
 -- a loop that maps the entries of a list in rising order
 module _ {f : ℕ → ℕ → ℕ} {lo : ℕ} {before : List ℕ} where

@@ -5,7 +5,7 @@ use Prim.Native.Nat.{ℕ, _%_, _<_}
 use native.Mathlib.Omega.{arith}
 use lib.ListN.{getD}
 use Rattle.vector.proofs.Laws.{length-tabulate, getD-tabulate, tabulate-by}
-use Rattle.reorder.specs.Parts.{lowBits, Small}
+use Rattle.reorder.specs.Order.{lowBits, Small}
 
 -- what counts is small
 pub low-small : {w : List ℕ} (v : List ℕ) → w ≡ lowBits v → Small w

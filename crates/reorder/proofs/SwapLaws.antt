@@ -1,12 +1,21 @@
 -- The laws of a vector with entries exchanged.
-use mathlib.Core.Path.{_≡_, sym, ap, _∙_, subst}
+use mathlib.Core.Path.{_≡_, sym, ap, ap₂, _∙_, subst}
 use mathlib.Core.List.{List}
-use Prim.Native.Nat.{ℕ, _≤_, _<_}
+use Prim.Native.Nat.{ℕ, _+_, _-_, _%_, _≤_, _<_}
+use native.Mathlib.Omega.{arith}
 use lib.ListN.{length, getD}
 use Rattle.vector.proofs.Laws.{length-tabulate, getD-tabulate, tabulate-ext, tabulate-by}
 use Rattle.gf64.specs.Field.{_⊕_}
 use Rattle.gf64.proofs.SumLaws.{sum-lt, sum-assoc, sum-zero}
-use Rattle.reorder.specs.Parts.{Small, swapped}
+use Rattle.reorder.specs.Order.{Small, swapped}
+
+-- in a part that keeps its place the entry exchanged for entry b
+pub own-source : (first b run : ℕ) → first ≤ b → (first + (b - first)) ⊕ (run % 8 % 64) ≡ b ⊕ (run % 8)
+own-source first b run l = ap₂ _⊕_ (omega arith) (omega arith)
+
+-- with no run the entries of a part are those of the other from its first on
+pub source-plain : (from i : ℕ) → (from + i) ⊕ (0 % 64) ≡ from + i
+source-plain from i = sum-zero (from + i)
 
 -- a copy has 64 entries
 pub swapped-long : (v : List ℕ) (run : ℕ) → length (swapped v run) ≡ 64

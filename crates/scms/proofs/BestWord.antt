@@ -6,12 +6,13 @@ use Prim.Native.Nat.{ℕ, zero, suc, _/_, _^_, _<_}
 use native.Mathlib.Nat.{le-trans, le-of-eq, le-antisymm}
 use native.Mathlib.Omega.{arith}
 use lib.ListN.{getD}
-use Rattle.polar_code.specs.Code.{kindOf, Coefficients}
+use Rattle.polar_code.specs.Code.{Code, kindOf, Coefficients}
 use Rattle.polar.specs.Transform.{transform}
 use Rattle.polar.specs.Tree.{Tree, map2, treeSum, All, All2, treeOf, number}
 use Rattle.polar.specs.Halves.{Coefs, join, transformTree, coefsAt}
 use Rattle.polar.proofs.TreeLaws.{number-lt, all2-by, treeOf-at}
 use Rattle.polar.proofs.OneToOne.{Symbol, AllNonZero, transform-symbols, coefs-nonzero}
+use Rattle.scms.specs.Mode.{Mode}
 use Rattle.scms.specs.Decision.{decision}
 use Rattle.scms.specs.Decoder.{symbols, count}
 use Rattle.scms.specs.Totals.{total, Least, InCode, FrozenFirst, Unclipped}
@@ -27,13 +28,13 @@ use Rattle.scms.proofs.TreeLists.{tree-word, sent-tree, sent-leaves}
 use Rattle.scms.proofs.FrozenPlaces.{IsFrozen, IsMessage, Holds, FirstFrozen, not-both, frozen-one, message-all, message-first, first-of}
 
 -- what the decoder by halves answers is a word of the code
-decoded-holds : (m cap : ℕ) (k : Coefs m) (map : Tree ℕ m) (f : Vectors m) → All2 m Holds map (decodeTree m cap k map f .symbols)
+decoded-holds : (m : ℕ) (mode : Mode) (k : Coefs m) (map : Tree ℕ m) (f : Vectors m) → All2 m Holds map (decodeTree m mode k map f .symbols)
 unfolding All2 decodeTree
-decoded-holds zero cap k map f = λ s e. decision-frozen (kindOf map) f s e
-decoded-holds (suc m) cap k map f =
+decoded-holds zero mode k map f = λ s e. decision-frozen (kindOf map) f s e
+decoded-holds (suc m) mode k map f =
     let c = checkNodes m (k .0) (f .0) (f .1) in (
-      decoded-holds m cap (k .1) (map .0) c,
-      decoded-holds m cap (k .2) (map .1) (variableNodes m cap (k .0) (f .0) (f .1) (decodeTree m cap (k .1) (map .0) c .word)),
+      decoded-holds m mode (k .1) (map .0) c,
+      decoded-holds m mode (k .2) (map .1) (variableNodes m (mode .cap) (k .0) (f .0) (f .1) (decodeTree m mode (k .1) (map .0) c .word)),
     )
 
 -- a least over the same words
@@ -46,15 +47,15 @@ least-unique P f t r l k =
     le-antisymm (le-trans (l .bound (k .by) (k .meets)) (le-of-eq (k .gives))) (le-trans (k .bound (l .by) (l .meets)) (le-of-eq (l .gives)))
 
 -- one layer, given the least over the second half with the first as decided, s: t, the total of the word decided
-module _ (m cap : ℕ) (k : Coefs (suc m)) (map : Tree ℕ (suc m)) (f : Vectors (suc m)) (nz : AllNonZero (suc m) k)
+module _ (m : ℕ) (mode : Mode) (k : Coefs (suc m)) (map : Tree ℕ (suc m)) (f : Vectors (suc m)) (nz : AllNonZero (suc m) k)
     (s : Tree ℕ m) (ls : All m Symbol s) (hs : All2 m Holds (map .0) s) (t : ℕ)
     (second : Least (Words (suc m) (λ u. (u .0 ≡ s) × All2 m Holds (map .1) (u .1))) (sentTotal (suc m) k f) t) where
   -- the words of the code
-  abbrev Code : Tree ℕ (suc m) → Type 0
-  Code = Words (suc m) (All2 (suc m) Holds map)
+  abbrev CodeWords : Tree ℕ (suc m) → Type 0
+  CodeWords = Words (suc m) (All2 (suc m) Holds map)
 
   -- the first half is all frozen: s is its only word
-  first-frozen : All m IsFrozen (map .0) → Least Code (sentTotal (suc m) k f) t
+  first-frozen : All m IsFrozen (map .0) → Least CodeWords (sentTotal (suc m) k f) t
   unfolding All2
   first-frozen h = least-same
       (λ u p. (p .0, (subst (All2 m Holds (map .0)) (sym (p .1 .0)) hs, p .1 .1)))
@@ -64,16 +65,16 @@ module _ (m cap : ℕ) (k : Coefs (suc m)) (map : Tree ℕ (suc m)) (f : Vectors
   -- the second half is all message places: the check nodes' least over the first half is attained at s
   second-message : All m IsMessage (map .1)
       → Least (Words m (All2 m Holds (map .0))) (sentTotal m (k .1) (checkNodes m (k .0) (f .0) (f .1))) (sentTotal m (k .1) (checkNodes m (k .0) (f .0) (f .1)) s)
-      → Least Code (sentTotal (suc m) k f) t
+      → Least CodeWords (sentTotal (suc m) k f) t
   unfolding All2
   second-message h first =
       let g = sentTotal m (k .1) (checkNodes m (k .0) (f .0) (f .1)) in
-      let p = least-check m cap k f nz (All2 m Holds (map .0)) (g s) first in
-      let q = least-check m cap k f nz (λ u. u ≡ s) (g s)
+      let p = least-check m mode k f nz (All2 m Holds (map .0)) (g s) first in
+      let q = least-check m mode k f nz (λ u. u ≡ s) (g s)
       (record { by = s; meets = (ls, refl); gives = refl; bound = λ u a. le-of-eq (ap g (sym (a .1))) }) in
       let e = least-unique (Words (suc m) (λ u. u .0 ≡ s)) (sentTotal (suc m) k f) (g s) t q
       (least-same (λ u a. (a .0, a .1 .0)) (λ u a. (a .0, (a .1, message-all m (map .1) (u .1) h))) second) in
-      subst (Least Code (sentTotal (suc m) k f)) e
+      subst (Least CodeWords (sentTotal (suc m) k f)) e
       (least-same (λ u a. (a .0, (a .1, message-all m (map .1) (u .1) h))) (λ u a. (a .0, a .1 .0)) p)
 
 -- one place
@@ -95,62 +96,74 @@ leaf-least byte v = go (kind-cases (kindOf byte))
     }
 
 -- by halves
-tree-best : (m cap : ℕ) (k : Coefs m) (map : Tree ℕ m) (f : Vectors m) → AllNonZero m k → FirstFrozen m map → decodeTree m cap k map f .count ≡ 0
-    → Least (Words m (All2 m Holds map)) (sentTotal m k f) (treeTotal m f (decodeTree m cap k map f .word))
+tree-best : (m : ℕ) (mode : Mode) (k : Coefs m) (map : Tree ℕ m) (f : Vectors m) → AllNonZero m k → FirstFrozen m map → decodeTree m mode k map f .count ≡ 0
+    → Least (Words m (All2 m Holds map)) (sentTotal m k f) (treeTotal m f (decodeTree m mode k map f .word))
 unfolding All All2 AllNonZero decodeTree transformTree join treeTotal treeSum map2 FirstFrozen
-tree-best zero cap k map f nz ff e = leaf-least map f
-tree-best (suc m) cap k map f nz ff e =
+tree-best zero mode k map f nz ff e = leaf-least map f
+tree-best (suc m) mode k map f nz ff e =
     let c = checkNodes m (k .0) (f .0) (f .1) in
-    let a = decodeTree m cap (k .1) (map .0) c in
-    let v = variableNodes m cap (k .0) (f .0) (f .1) (a .word) in
-    let b = decodeTree m cap (k .2) (map .1) v in
-    let ls = decoded-symbols m cap (k .1) (map .0) c in
-    let wa = word-transform m cap (k .1) (map .0) c in
+    let a = decodeTree m mode (k .1) (map .0) c in
+    let v = variableNodes m (mode .cap) (k .0) (f .0) (f .1) (a .word) in
+    let b = decodeTree m mode (k .2) (map .1) v in
+    let ls = decoded-symbols m mode (k .1) (map .0) c in
+    let wa = word-transform m mode (k .1) (map .0) c in
     let ea : a .count ≡ 0 = omega arith in
-    let en : clippedNodes m cap (k .0) (f .0) (f .1) (a .word) ≡ 0 = omega arith in
+    let en : clippedNodes m (mode .cap) (k .0) (f .0) (f .1) (a .word) ≡ 0 = omega arith in
     let eb : b .count ≡ 0 = omega arith in
     let lb : All m Symbol (b .word)
-    = subst (All m Symbol) (sym (word-transform m cap (k .2) (map .1) v)) (transform-symbols m (k .2) (b .symbols) (decoded-symbols m cap (k .2) (map .1) v)) in
+    = subst (All m Symbol) (sym (word-transform m mode (k .2) (map .1) v)) (transform-symbols m (k .2) (b .symbols) (decoded-symbols m mode (k .2) (map .1) v)) in
     let t = treeTotal (suc m) f (join m (k .0) (a .word) (b .word)) in
-    let whole = variable-total m cap (k .0) (f .0) (f .1) (a .word) (b .word) en lb in
+    let whole = variable-total m (mode .cap) (k .0) (f .0) (f .1) (a .word) (b .word) en lb in
     let second : FirstFrozen m (map .1) → Least (Words (suc m) (λ u. (u .0 ≡ a .symbols) × All2 m Holds (map .1) (u .1))) (sentTotal (suc m) k f) t
     = λ fs. subst (Least (Words (suc m) (λ u. (u .0 ≡ a .symbols) × All2 m Holds (map .1) (u .1))) (sentTotal (suc m) k f)) whole
-    (least-variable m cap k f nz (a .symbols) (a .word) ls wa en (All2 m Holds (map .1)) (treeTotal m v (b .word)) (tree-best m cap (k .2) (map .1) v (nz .2) fs eb)) in
-    let hs = decoded-holds m cap (k .1) (map .0) c in
-    let first = tree-best m cap (k .1) (map .0) c (nz .1) in
+    (least-variable m mode k f nz (a .symbols) (a .word) ls wa en (All2 m Holds (map .1)) (treeTotal m v (b .word)) (tree-best m mode (k .2) (map .1) v (nz .2) fs eb)) in
+    let hs = decoded-holds m mode (k .1) (map .0) c in
+    let first = tree-best m mode (k .1) (map .0) c (nz .1) in
     either ff
-    (λ h fs. first-frozen m cap k map f nz (a .symbols) ls hs t (second fs) h)
-    (λ fs h. second-message m cap k map f nz (a .symbols) ls hs t (second (message-first m (map .1) h)) h
+    (λ h fs. first-frozen m mode k map f nz (a .symbols) ls hs t (second fs) h)
+    (λ fs h. second-message m mode k map f nz (a .symbols) ls hs t (second (message-first m (map .1) h)) h
     (subst (λ (x : Tree ℕ m). Least (Words m (All2 m Holds (map .0))) (sentTotal m (k .1) c) (treeTotal m c x)) wa (first fs ea)))
   where
     either : {A B C D E : Type 0} → (A × B) ⊎ (C × D) → (A → B → E) → (C → D → E) → E
     either (inl p) x y = x (p .0) (p .1)
     either (inr p) x y = y (p .0) (p .1)
 
-module _ (n cap : ℕ) (cs map frame : List ℕ) where
+module _ (code : Code) (mode : Mode) (frame : List ℕ) where
+  -- the number of layers
+  abbrev n : ℕ
+  n = code .n
+
+  -- the coefficients
+  abbrev cs : List ℕ
+  cs = code .coefs
+
+  -- the frozen map
+  abbrev map : List ℕ
+  map = code .map
+
   -- the word decided is a word of the code, clipped or not
-  pub symbols-in-code : InCode n map (symbols n cap cs map frame)
+  pub symbols-in-code : InCode code (symbols code mode frame)
   symbols-in-code = record {
-    word = symbols-word n cap cs map frame;
-    holds = λ i s l e. symbol-decided n cap cs map frame i l ∙ decision-frozen (kindOf (getD map i 0)) _ s e;
+    word = symbols-word code mode frame;
+    holds = λ i s l e. symbol-decided code mode frame i l ∙ decision-frozen (kindOf (getD map i 0)) _ s e;
   }
 
   -- a word of the code, as a tree
-  code-tree : (u : List ℕ) → InCode n map u → All2 n Holds (treeOf 0 n map) (treeOf 0 n u)
+  code-tree : (u : List ℕ) → InCode code u → All2 n Holds (treeOf 0 n map) (treeOf 0 n u)
   code-tree u c = all2-by Holds n (treeOf 0 n map) (treeOf 0 n u) (λ p f e.
       treeOf-at 0 u p ∙ c .holds (number p) f (number-lt p) (ap kindOf (sym (treeOf-at 0 map p)) ∙ e))
 
   -- no word of the code has a smaller total
-  pub best-word : Coefficients cs → Unclipped n cap cs map frame → FrozenFirst n map → BestWord n cap cs map frame
+  pub best-word : Coefficients cs → Unclipped code mode frame → FrozenFirst code → BestWord code mode frame
   unfolding decodeHalves
   best-word g un ff =
       let k = coefsAt n 0 (2 ^ n / 2) cs in
-      let a = decodeHalves n cap cs map frame in
-      let same = same-answer n cap cs map frame in
-      let l = tree-best n cap k (treeOf 0 n map) (frameTree n frame) (coefs-nonzero n 0 (2 ^ n / 2) cs g) (first-of n map ff) (halves-unclipped n cap cs map frame un) in
-      let t : total n frame (transform n cs (symbols n cap cs map frame)) ≡ treeTotal n (frameTree n frame) (a .word)
+      let a = decodeHalves code mode frame in
+      let same = same-answer code mode frame in
+      let l = tree-best n mode k (treeOf 0 n map) (frameTree n frame) (coefs-nonzero n 0 (2 ^ n / 2) cs g) (first-of n map ff) (halves-unclipped code mode frame un) in
+      let t : total n frame (transform n cs (symbols code mode frame)) ≡ treeTotal n (frameTree n frame) (a .word)
       = ap (λ (x : List ℕ). total n frame (transform n cs x)) (sym (same .same-symbols)) ∙ sent-leaves n cs frame (a .symbols)
-      ∙ ap (treeTotal n (frameTree n frame)) (sym (word-transform n cap k (treeOf 0 n map) (frameTree n frame))) in
+      ∙ ap (treeTotal n (frameTree n frame)) (sym (word-transform n mode k (treeOf 0 n map) (frameTree n frame))) in
       record {
         in-code = symbols-in-code;
         bound = λ u c.

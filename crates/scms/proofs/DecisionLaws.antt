@@ -12,7 +12,9 @@ use lib.Arith.{le-zero}
 use lib.Dec.{eqb, lit<}
 use lib.ListN.{getD}
 use Rattle.vector.specs.Vector.{HasZero, OnlyZero}
-use Rattle.polar_code.specs.Code.{Kind, message, frozen, kindOf}
+use Rattle.polar_code.specs.Code.{kindOf}
+use Rattle.polar_code.specs.declared.kinds.Kind.{Kind}
+use Rattle.polar_code.specs.declared.kinds.Kind.the-variants.{Message as message, Frozen as frozen}
 use Rattle.scms.specs.Decision.{smallestTo, smallest, decision}
 
 -- the smallest so far, and one value more: it stays where the next number is not below

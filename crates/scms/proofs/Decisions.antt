@@ -7,7 +7,8 @@ use native.Mathlib.Nat.{le-refl}
 use native.Mathlib.Omega.{arith}
 use lib.ListN.{getD}
 use Rattle.vector.specs.Vector.{HasZero}
-use Rattle.polar_code.specs.Code.{kindOf, Coefficients}
+use Rattle.polar_code.specs.Code.{Code, kindOf, Coefficients}
+use Rattle.scms.specs.Mode.{Mode}
 use Rattle.scms.specs.Decoder.{heldAt, held, symbols}
 use Rattle.scms.specs.Totals.{EachZero}
 use Rattle.scms.specs.Claims.{Decided}
@@ -15,18 +16,31 @@ use Rattle.scms.proofs.DecisionLaws.{smallest-zero, smallest-first, dec
 use Rattle.scms.proofs.Bounds.{vector-zero}
 use Rattle.scms.proofs.AnswerLaws.{symbol-decided, held-final}
 
-module _ (n cap : ℕ) (cs map frame : List ℕ) (g : Coefficients cs) (z : EachZero n frame) where
+module _ (code : Code) (mode : Mode) (frame : List ℕ) (g : Coefficients (code .coefs))
+    (z : EachZero (code .n) frame) where
+  -- the number of layers
+  abbrev n : ℕ
+  n = code .n
+
+  -- the coefficients
+  abbrev cs : List ℕ
+  cs = code .coefs
+
+  -- the frozen map
+  abbrev map : List ℕ
+  map = code .map
+
   -- each held vector has a 0
-  pub held-zero : (i : ℕ) → i < 2 ^ n → HasZero (held n cap cs map frame i)
+  pub held-zero : (i : ℕ) → i < 2 ^ n → HasZero (held code mode frame i)
   unfolding heldAt
-  held-zero i l = subst HasZero (sym (held-final n cap cs map frame i l)) (vector-zero n cap cs frame (symbols n cap cs map frame) g z n (le-refl n) i l)
+  held-zero i l = subst HasZero (sym (held-final code mode frame i l)) (vector-zero code mode frame (symbols code mode frame) g z n (le-refl n) i l)
 
   -- the decisions
-  pub decided : (i : ℕ) → i < 2 ^ n → Decided n cap cs map frame i
+  pub decided : (i : ℕ) → i < 2 ^ n → Decided code mode frame i
   decided i l =
-      let v = held n cap cs map frame i in
+      let v = held code mode frame i in
       let hz = held-zero i l in
-      let sd = symbol-decided n cap cs map frame i l in
+      let sd = symbol-decided code mode frame i l in
       record {
         has-zero = hz;
         frozen-holds = λ s e. sd ∙ decision-frozen (kindOf (getD map i 0)) v s e;

@@ -9,6 +9,7 @@ use native.Mathlib.Omega.{arith}
 use lib.ListN.{length, getD}
 use lib.Pow.{pow-pos}
 use Rattle.refusal.specs.Tests.{Within}
+use Rattle.polar_code.specs.Code.{Code}
 use Rattle.polar.specs.Transform.{phi, coefficient, layers}
 use Rattle.polar.specs.Tree.{Tree, at, number}
 use Rattle.polar.specs.Halves.{transformTree, coefsAt}
@@ -17,6 +18,7 @@ use Rattle.polar.proofs.TreeLaws.{place-of, ext-at}
 use Rattle.polar.proofs.Kernels.{phi-is}
 use Rattle.polar.proofs.Windows.{window, window-ext}
 use Rattle.polar.proofs.ByHalves.{block-halves}
+use Rattle.scms.specs.Mode.{Mode}
 use Rattle.scms.specs.Nodes.{checkNode, variableNode}
 use Rattle.scms.specs.Decoder.{thetaSymbol, vectors, heldAt}
 use Rattle.scms.specs.Claims.{Agree, OnlyEarlier}
@@ -46,16 +48,29 @@ module _ (n : ℕ) (cs s r : List ℕ) (ls : length s ≡ 2 ^ n) (lr : length r 
   u-agrees d m w o e eo fits a = block-agrees m (suc d) (w * 2) o (omega arith) (omega arith) (omega arith) (λ j x y. a j y)
 
 -- the vectors of a block of 2^m places depend on the symbols before it only
-module _ (n cap : ℕ) (cs frame s r : List ℕ) (ls : length s ≡ 2 ^ n) (lr : length r ≡ 2 ^ n) where
+module _ (code : Code) (mode : Mode) (frame s r : List ℕ) (ls : length s ≡ 2 ^ code .n)
+    (lr : length r ≡ 2 ^ code .n) where
+  -- the number of layers
+  abbrev n : ℕ
+  n = code .n
+
+  -- the cap of its variable nodes
+  abbrev cap : ℕ
+  cap = mode .cap
+
+  -- the coefficients
+  abbrev cs : List ℕ
+  cs = code .coefs
+
   -- a block of layer d has the same vectors with s as with r
   abbrev Same : (m o d : ℕ) → Type 0
-  Same m o d = window [] m o (vectors n cap cs frame s d) ≡ window [] m o (vectors n cap cs frame r d)
+  Same m o d = window [] m o (vectors code mode frame s d) ≡ window [] m o (vectors code mode frame r d)
 
   -- layer d + 1, from the vectors of the block that it halves
   module _ (d m w o : ℕ) (e : d + suc m ≡ n) (eo : o ≡ w * (2 ^ m + 2 ^ m)) (fits : o + (2 ^ m + 2 ^ m) ≤ 2 ^ n) (h : Same (suc m) o d) where
     -- the vectors of layer d
     abbrev vs : List ℕ → List (List ℕ)
-    vs x = vectors n cap cs frame x d
+    vs x = vectors code mode frame x d
 
     -- the first half of the block
     first-same : window [] m o (vs s) ≡ window [] m o (vs r)
@@ -69,20 +84,20 @@ module _ (n cap : ℕ) (cs frame s r : List ℕ) (ls : length s ≡ 2 ^ n) (lr :
 
     -- the first half
     check-same : Same m o (suc d)
-    check-same = ext-at m (window [] m o (vectors n cap cs frame s (suc d))) (window [] m o (vectors n cap cs frame r (suc d))) (λ p.
-        check-of n cap cs frame s d m w o e eo fits p
+    check-same = ext-at m (window [] m o (vectors code mode frame s (suc d))) (window [] m o (vectors code mode frame r (suc d))) (λ p.
+        check-of code mode frame s d m w o e eo fits p
         ∙ ap₂ (λ (x y : Tree (List ℕ) m). checkNode (coefficient n (suc d) (w * 2 ^ m + number p) cs) (at x p) (at y p)) first-same second-same
-        ∙ sym (check-of n cap cs frame r d m w o e eo fits p))
+        ∙ sym (check-of code mode frame r d m w o e eo fits p))
 
     -- the second half
     variable-same : Agree (o + 2 ^ m) s r → Same m (o + 2 ^ m) (suc d)
-    variable-same a = ext-at m (window [] m (o + 2 ^ m) (vectors n cap cs frame s (suc d))) (window [] m (o + 2 ^ m) (vectors n cap cs frame r (suc d))) (λ p.
+    variable-same a = ext-at m (window [] m (o + 2 ^ m) (vectors code mode frame s (suc d))) (window [] m (o + 2 ^ m) (vectors code mode frame r (suc d))) (λ p.
         let h = coefficient n (suc d) (w * 2 ^ m + number p) cs in
-        variable-of n cap cs frame s d m w o e eo fits p
+        variable-of code mode frame s d m w o e eo fits p
         ∙ ap₂ (λ (x y : Tree (List ℕ) m). variableNode cap h (at (window 0 m o (layers n m cs s)) p) (at x p) (at y p)) first-same second-same
         ∙ ap (λ (x : Tree ℕ m). variableNode cap h (at x p) (at (window [] m o (vs r)) p) (at (window [] m (o + 2 ^ m) (vs r)) p))
         (u-agrees n cs s r ls lr d m w o e eo fits a)
-        ∙ sym (variable-of n cap cs frame r d m w o e eo fits p))
+        ∙ sym (variable-of code mode frame r d m w o e eo fits p))
 
   -- every layer: block w of the 2^d blocks of 2^m places
   vectors-earlier : (d m w o : ℕ) → d + m ≡ n → o ≡ w * 2 ^ m → w < 2 ^ d → Agree o s r → Same m o d
@@ -140,9 +155,10 @@ u-depends n cs s r ls lr (suc d) t lw lt a = go (n - suc d) refl (let x = lw .mo
         ∙ sym (u-in-block n d m w (w * (2 ^ m + 2 ^ m)) e refl (p .0) cs r))
 
 -- what is worked out depends on earlier places only
-pub only-earlier : (n cap : ℕ) (cs frame s r : List ℕ) → length s ≡ 2 ^ n → length r ≡ 2 ^ n → OnlyEarlier n cap cs frame s r
+pub only-earlier : (code : Code) (mode : Mode) (frame s r : List ℕ) → length s ≡ 2 ^ code .n → length r ≡ 2 ^ code .n
+    → OnlyEarlier code mode frame s r
 unfolding heldAt window
-only-earlier n cap cs frame s r ls lr = record {
-  u-earlier = u-depends n cs s r ls lr;
-  held-earlier = λ i l a. vectors-earlier n cap cs frame s r ls lr n 0 i i (add-zero n) (omega arith) l a;
+only-earlier code mode frame s r ls lr = record {
+  u-earlier = u-depends (code .n) (code .coefs) s r ls lr;
+  held-earlier = λ i l a. vectors-earlier code mode frame s r ls lr (code .n) 0 i i (add-zero (code .n)) (omega arith) l a;
 }

@@ -9,6 +9,7 @@ use Rattle.polar.specs.Tree.{Tree, map1, map2, treeSum, All, Place, here, first
 use Rattle.polar.specs.Halves.{Coefs, join, transformTree}
 use Rattle.polar.proofs.TreeLaws.{map1-at}
 use Rattle.polar.proofs.OneToOne.{Symbol, AllNonZero, transform-symbols, undo, undo-symbols, transform-undo}
+use Rattle.scms.specs.Mode.{Mode}
 use Rattle.scms.specs.Totals.{Least}
 use Rattle.scms.specs.Halves.{Vectors, checkNodes, variableNodes, clippedNodes, takenNodes, decodeTree}
 use Rattle.scms.proofs.TreeTotals.{llrAt, treeTotal, check-total-le, check-total-at, variable-total}
@@ -23,7 +24,7 @@ abbrev pub Words : (m : ℕ) → (Tree ℕ m → Type 0) → Tree ℕ m → Type
 Words m P u = All m Symbol u × P u
 
 -- one layer: m + 1 layers, of which the first joins two halves
-module _ (m cap : ℕ) (k : Coefs (suc m)) (f : Vectors (suc m)) (nz : AllNonZero (suc m) k) where
+module _ (m : ℕ) (mode : Mode) (k : Coefs (suc m)) (f : Vectors (suc m)) (nz : AllNonZero (suc m) k) where
   -- check nodes: the least over a free second half
   pub least-check : (P : Tree ℕ m → Type 0) (t : ℕ) → Least (Words m P) (sentTotal m (k .1) (checkNodes m (k .0) (f .0) (f .1))) t
       → Least (Words (suc m) (λ u. P (u .0))) (sentTotal (suc m) k f) t
@@ -42,19 +43,19 @@ module _ (m cap : ℕ) (k : Coefs (suc m)) (f : Vectors (suc m)) (nz : AllNonZer
       }
 
   -- variable nodes that clip nothing, with the first half decided as s and its word w: each total is less by what they took off
-  module _ (s w : Tree ℕ m) (ls : All m Symbol s) (ew : w ≡ transformTree m (k .1) s) (e : clippedNodes m cap (k .0) (f .0) (f .1) w ≡ 0) where
+  module _ (s w : Tree ℕ m) (ls : All m Symbol s) (ew : w ≡ transformTree m (k .1) s) (e : clippedNodes m (mode .cap) (k .0) (f .0) (f .1) w ≡ 0) where
     -- the total of a word whose first half is s, from the second half's
     whole : (u v : Tree ℕ m) → u ≡ s → All m Symbol v
-        → treeTotal m (variableNodes m cap (k .0) (f .0) (f .1) w) (transformTree m (k .2) v) + takenNodes m (k .0) (f .0) (f .1) w
+        → treeTotal m (variableNodes m (mode .cap) (k .0) (f .0) (f .1) w) (transformTree m (k .2) v) + takenNodes m (k .0) (f .0) (f .1) w
         ≡ sentTotal (suc m) k f (u, v)
     unfolding transformTree join treeTotal treeSum map2
     whole u v eu lv =
-        variable-total m cap (k .0) (f .0) (f .1) w (transformTree m (k .2) v) e (transform-symbols m (k .2) v lv)
+        variable-total m (mode .cap) (k .0) (f .0) (f .1) w (transformTree m (k .2) v) e (transform-symbols m (k .2) v lv)
         ∙ ap (λ (x : Tree ℕ m). treeTotal m (f .0) (map2 m _⊕_ x (transformTree m (k .2) v)) + treeTotal m (f .1) (map2 m _⊙_ (k .0) (transformTree m (k .2) v)))
         (ew ∙ ap (transformTree m (k .1)) (sym eu))
 
     -- the least over the second half, the first being s
-    pub least-variable : (P : Tree ℕ m → Type 0) (t : ℕ) → Least (Words m P) (sentTotal m (k .2) (variableNodes m cap (k .0) (f .0) (f .1) w)) t
+    pub least-variable : (P : Tree ℕ m → Type 0) (t : ℕ) → Least (Words m P) (sentTotal m (k .2) (variableNodes m (mode .cap) (k .0) (f .0) (f .1) w)) t
         → Least (Words (suc m) (λ u. (u .0 ≡ s) × P (u .1))) (sentTotal (suc m) k f) (t + takenNodes m (k .0) (f .0) (f .1) w)
     unfolding All
     least-variable P t l = record {
@@ -72,28 +73,28 @@ BeginsAt s (first i) b u = BeginsAt (s .0) i b (u .0)
 BeginsAt s (second i) b u = (u .0 ≡ s .0) × BeginsAt (s .1) i b (u .1)
 
 -- the least total of what was decided before place i, followed by b
-pub exact : {m : ℕ} (i : Place m) (cap : ℕ) (k : Coefs m) (map : Tree ℕ m) (f : Vectors m) → AllNonZero m k → decodeTree m cap k map f .count ≡ 0 → (b : ℕ) → b < 64
-    → Least (Words m (BeginsAt (decodeTree m cap k map f .symbols) i b)) (sentTotal m k f)
-    (llrAt (at (decodeTree m cap k map f .held) i) b + at (decodeTree m cap k map f .taken) i)
+pub exact : {m : ℕ} (i : Place m) (mode : Mode) (k : Coefs m) (map : Tree ℕ m) (f : Vectors m) → AllNonZero m k → decodeTree m mode k map f .count ≡ 0 → (b : ℕ) → b < 64
+    → Least (Words m (BeginsAt (decodeTree m mode k map f .symbols) i b)) (sentTotal m k f)
+    (llrAt (at (decodeTree m mode k map f .held) i) b + at (decodeTree m mode k map f .taken) i)
 unfolding decodeTree transformTree at BeginsAt All treeTotal treeSum map2 AllNonZero
-exact here cap k map f nz e b lb = record {
+exact here mode k map f nz e b lb = record {
   by = b;
   meets = (lb, refl);
   gives = sym (add-zero (llrAt f b));
   bound = λ u p. le-of-eq (add-zero (llrAt f b) ∙ ap (llrAt f) (sym (p .1)));
 }
-exact (first {m} i) cap k map f nz e b lb =
-    let a = decodeTree m cap (k .1) (map .0) (checkNodes m (k .0) (f .0) (f .1)) in
-    least-check m cap k f nz (BeginsAt (a .symbols) i b) (llrAt (at (a .held) i) b + at (a .taken) i)
-    (exact i cap (k .1) (map .0) (checkNodes m (k .0) (f .0) (f .1)) (nz .1) (omega arith) b lb)
-exact (second {m} i) cap k map f nz e b lb =
+exact (first {m} i) mode k map f nz e b lb =
+    let a = decodeTree m mode (k .1) (map .0) (checkNodes m (k .0) (f .0) (f .1)) in
+    least-check m mode k f nz (BeginsAt (a .symbols) i b) (llrAt (at (a .held) i) b + at (a .taken) i)
+    (exact i mode (k .1) (map .0) (checkNodes m (k .0) (f .0) (f .1)) (nz .1) (omega arith) b lb)
+exact (second {m} i) mode k map f nz e b lb =
     let c = checkNodes m (k .0) (f .0) (f .1) in
-    let a = decodeTree m cap (k .1) (map .0) c in
-    let v = variableNodes m cap (k .0) (f .0) (f .1) (a .word) in
-    let d = decodeTree m cap (k .2) (map .1) v in
+    let a = decodeTree m mode (k .1) (map .0) c in
+    let v = variableNodes m (mode .cap) (k .0) (f .0) (f .1) (a .word) in
+    let d = decodeTree m mode (k .2) (map .1) v in
     let t = takenNodes m (k .0) (f .0) (f .1) (a .word) in
     let q : llrAt (at (d .held) i) b + at (d .taken) i + t ≡ llrAt (at (d .held) i) b + at (map1 m (λ x. x + t) (d .taken)) i
     = add-assoc (llrAt (at (d .held) i) b) (at (d .taken) i) t ∙ ap (λ (x : ℕ). llrAt (at (d .held) i) b + x) (sym (map1-at (λ x. x + t) i (d .taken))) in
     subst (Least (Words (suc m) (λ u. (u .0 ≡ a .symbols) × BeginsAt (d .symbols) i b (u .1))) (sentTotal (suc m) k f)) q
-    (least-variable m cap k f nz (a .symbols) (a .word) (decoded-symbols m cap (k .1) (map .0) c) (word-transform m cap (k .1) (map .0) c) (omega arith)
-    (BeginsAt (d .symbols) i b) (llrAt (at (d .held) i) b + at (d .taken) i) (exact i cap (k .2) (map .1) v (nz .2) (omega arith) b lb))
+    (least-variable m mode k f nz (a .symbols) (a .word) (decoded-symbols m mode (k .1) (map .0) c) (word-transform m mode (k .1) (map .0) c) (omega arith)
+    (BeginsAt (d .symbols) i b) (llrAt (at (d .held) i) b + at (d .taken) i) (exact i mode (k .2) (map .1) v (nz .2) (omega arith) b lb))

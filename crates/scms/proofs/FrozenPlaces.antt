@@ -1,13 +1,15 @@
 -- Frozen places and message places by halves; and what it says of the halves that all frozen places come first.
 use mathlib.Core.Path.{_≡_, sym, ap, _∙_}
 use mathlib.Core.Logic.{_⊎_, inl, inr}
-use mathlib.Core.List.{List}
+use mathlib.Core.List.{List, []}
 use Prim.Native.Nat.{ℕ, zero, suc, _+_, _-_, _^_, _≤_, _<_}
 use native.Mathlib.Omega.{arith}
 use lib.ListN.{getD, take, drop}
 use lib.Pow.{pow-pos}
 use lib.Seq.{getD-take, getD-drop}
-use Rattle.polar_code.specs.Code.{Kind, message, frozen, kindOf, messageCount}
+use Rattle.polar_code.specs.Code.{codeOf, kindOf, messageCount}
+use Rattle.polar_code.specs.declared.kinds.Kind.{Kind}
+use Rattle.polar_code.specs.declared.kinds.Kind.the-variants.{Message as message, Frozen as frozen}
 use Rattle.polar.specs.Tree.{Tree, All, All2, treeOf}
 use Rattle.polar.proofs.Numbers.{two-pow, lt-or-le}
 use Rattle.polar.proofs.TreeLaws.{all-treeOf}
@@ -30,6 +32,10 @@ not-both kind s a b = let e : _≡_ {A = ℕ} 1 0 = sym (ap messageCount a) ∙ 
 -- a frozen place has the symbol that it always holds
 abbrev pub Holds : ℕ → ℕ → Type 0
 Holds byte s = (f : ℕ) → kindOf byte ≡ frozen f → s ≡ f
+
+-- all frozen places of a map come first, whatever the code's coefficients are
+abbrev pub FrozenFirstIn : (m : ℕ) → List ℕ → Type 0
+FrozenFirstIn m map = FrozenFirst (codeOf m map [])
 
 -- all frozen places first, by halves: all of the first half are frozen, or all of the second are message places
 unfoldable pub FirstFrozen : (m : ℕ) → Tree ℕ m → Type 0
@@ -56,7 +62,7 @@ message-first zero map h = tt
 message-first (suc m) map h = inr (message-first m (map .0) (h .0), h .1)
 
 -- frozen places first, by halves: what the last place of the first half is decides which half is of one kind
-pub first-of : (m : ℕ) (map : List ℕ) → FrozenFirst m map → FirstFrozen m (treeOf 0 m map)
+pub first-of : (m : ℕ) (map : List ℕ) → FrozenFirstIn m map → FirstFrozen m (treeOf 0 m map)
 unfolding FirstFrozen treeOf
 first-of zero map h = tt
 first-of (suc m) map h = go (kind-cases (kindOf (getD map (2 ^ m - 1) 0))) (first-of m)
@@ -68,11 +74,11 @@ first-of (suc m) map h = go (kind-cases (kindOf (getD map (2 ^ m - 1) 0))) (firs
     pos = pow-pos m
 
     -- the halves
-    front : FrozenFirst m (take (2 ^ m) map)
+    front : FrozenFirstIn m (take (2 ^ m) map)
     front i j s l lj a b = h i j s l (omega (arith, q))
         (ap kindOf (sym (getD-take (2 ^ m) map i 0 (omega arith))) ∙ a) (ap kindOf (sym (getD-take (2 ^ m) map j 0 lj)) ∙ b)
 
-    back : FrozenFirst m (drop (2 ^ m) map)
+    back : FrozenFirstIn m (drop (2 ^ m) map)
     back i j s l lj a b = h (2 ^ m + i) (2 ^ m + j) s (omega arith) (omega (arith, q))
         (ap kindOf (sym (getD-drop (2 ^ m) map i 0)) ∙ a) (ap kindOf (sym (getD-drop (2 ^ m) map j 0)) ∙ b)
 
@@ -100,7 +106,7 @@ first-of (suc m) map h = go (kind-cases (kindOf (getD map (2 ^ m - 1) 0))) (firs
             absurd (not-both (kindOf (getD map j 0)) s (sym same ∙ a) (ap (λ (x : ℕ). kindOf (getD map x 0)) z ∙ e))
 
     go : KindCases (kindOf (getD map (2 ^ m - 1) 0))
-        → ((map : List ℕ) → FrozenFirst m map → FirstFrozen m (treeOf 0 m map))
+        → ((map : List ℕ) → FrozenFirstIn m map → FirstFrozen m (treeOf 0 m map))
         → (All m IsFrozen (treeOf 0 m (take (2 ^ m) map)) × FirstFrozen m (treeOf 0 m (drop (2 ^ m) map)))
         ⊎ (FirstFrozen m (treeOf 0 m (take (2 ^ m) map)) × All m IsMessage (treeOf 0 m (drop (2 ^ m) map)))
     go (inl e) ih = inr (ih (take (2 ^ m) map) front, all-treeOf 0 IsMessage m (drop (2 ^ m) map) (second-message-at e))

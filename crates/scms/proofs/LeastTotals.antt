@@ -8,11 +8,12 @@ use native.Mathlib.Omega.{arith}
 use lib.ListN.{length, getD, take}
 use Rattle.vector.specs.Vector.{leastTo}
 use Rattle.vector.proofs.Laws.{least-to-le, least-to-at}
-use Rattle.polar_code.specs.Code.{Coefficients}
+use Rattle.polar_code.specs.Code.{Code, Coefficients}
 use Rattle.polar.specs.Tree.{Tree, leaves, treeOf, Place, at, number}
 use Rattle.polar.specs.Halves.{coefsAt}
 use Rattle.polar.proofs.TreeLaws.{place-of, length-leaves, treeOf-at, leaves-at, leaves-number}
 use Rattle.polar.proofs.OneToOne.{coefs-nonzero}
+use Rattle.scms.specs.Mode.{Mode}
 use Rattle.scms.specs.Decoder.{takenOff, held, symbols}
 use Rattle.scms.specs.Totals.{Least, Begins, LeastTotal, EachZero, Unclipped}
 use Rattle.scms.specs.Claims.{heldAndTaken, LeastTotals}
@@ -23,54 +24,54 @@ use Rattle.scms.proofs.TreeTotals.{llrAt}
 use Rattle.scms.proofs.Exact.{sentTotal, Words, BeginsAt, exact}
 use Rattle.scms.proofs.TreeLists.{begins-by, begins-there, begins-before, row-by, row-symbols, row-last, word-leaves, tree-word, sent-tree, sent-leaves}
 
-module _ (n : ℕ) (cs frame : List ℕ) (s : Tree ℕ n) (i b : ℕ) (l : i < 2 ^ n) where
+module _ (code : Code) (frame : List ℕ) (s : Tree ℕ (code .n)) (i b : ℕ) (l : i < 2 ^ code .n) where
   -- place i of the tree
-  abbrev p : Place n
-  p = place-of n i l .0
+  abbrev p : Place (code .n)
+  p = place-of (code .n) i l .0
 
   -- the symbols of s before place i, then b
   abbrev row : List ℕ
-  row = take i (leaves n s) ++ (b ∷ [])
+  row = take i (leaves (code .n) s) ++ (b ∷ [])
 
   -- place i is one of s
-  i-in : i < length (leaves n s)
-  i-in = subst (λ (x : ℕ). i < x) (sym (length-leaves ℕ n s)) l
+  i-in : i < length (leaves (code .n) s)
+  i-in = subst (λ (x : ℕ). i < x) (sym (length-leaves ℕ (code .n) s)) l
 
   -- a word that begins with the row, as a tree
-  to-tree : (u : List ℕ) → Begins n row u → Words n (BeginsAt s p b) (treeOf 0 n u)
+  to-tree : (u : List ℕ) → Begins (code .n) row u → Words (code .n) (BeginsAt s p b) (treeOf 0 (code .n) u)
   to-tree u h =
-      let lu = h .word .long ∙ sym (length-leaves ℕ n s) in
-      let e = place-of n i l .1 in (
-        tree-word n u (h .word),
-        begins-by p s (treeOf 0 n u) b
-            (λ q k. treeOf-at 0 u q ∙ row-symbols (leaves n s) i b i-in u lu (h .begins) (number q) (subst (λ (x : ℕ). number q < x) e k) ∙ leaves-at 0 q s)
-            (treeOf-at 0 u p ∙ ap (λ (x : ℕ). getD u x 0) e ∙ row-last (leaves n s) i b i-in u lu (h .begins)),
+      let lu = h .word .long ∙ sym (length-leaves ℕ (code .n) s) in
+      let e = place-of (code .n) i l .1 in (
+        tree-word (code .n) u (h .word),
+        begins-by p s (treeOf 0 (code .n) u) b
+            (λ q k. treeOf-at 0 u q ∙ row-symbols (leaves (code .n) s) i b i-in u lu (h .begins) (number q) (subst (λ (x : ℕ). number q < x) e k) ∙ leaves-at 0 q s)
+            (treeOf-at 0 u p ∙ ap (λ (x : ℕ). getD u x 0) e ∙ row-last (leaves (code .n) s) i b i-in u lu (h .begins)),
       )
 
   -- and the other way round
-  from-tree : (u : Tree ℕ n) → Words n (BeginsAt s p b) u → Begins n row (leaves n u)
+  from-tree : (u : Tree ℕ (code .n)) → Words (code .n) (BeginsAt s p b) u → Begins (code .n) row (leaves (code .n) u)
   from-tree u h =
-      let lu = length-leaves ℕ n u ∙ sym (length-leaves ℕ n s) in
-      let e = place-of n i l .1 in
+      let lu = length-leaves ℕ (code .n) u ∙ sym (length-leaves ℕ (code .n) s) in
+      let e = place-of (code .n) i l .1 in
       record {
-        word = word-leaves n u (h .0);
-        begins = row-by (leaves n s) i b i-in (leaves n u) lu
+        word = word-leaves (code .n) u (h .0);
+        begins = row-by (leaves (code .n) s) i b i-in (leaves (code .n) u) lu
             (λ j k.
-            let m : j < 2 ^ n = omega arith in
-            let q = place-of n j m in
-            leaves-number 0 n j m u
+            let m : j < 2 ^ code .n = omega arith in
+            let q = place-of (code .n) j m in
+            leaves-number 0 (code .n) j m u
             ∙ begins-before p (q .0) s u b (h .1) (subst (λ (x : ℕ). number (q .0) < x) (sym e) (subst (λ (x : ℕ). x < i) (sym (q .1)) k))
-            ∙ sym (leaves-number 0 n j m s))
-            (leaves-number 0 n i l u ∙ begins-there p s u b (h .1));
+            ∙ sym (leaves-number 0 (code .n) j m s))
+            (leaves-number 0 (code .n) i l u ∙ begins-there p s u b (h .1));
       }
 
   -- a least total over trees is one over lists
-  least-lists : (t : ℕ) → Least (Words n (BeginsAt s p b)) (sentTotal n (coefsAt n 0 (2 ^ n / 2) cs) (frameTree n frame)) t → LeastTotal n cs frame row t
+  least-lists : (t : ℕ) → Least (Words (code .n) (BeginsAt s p b)) (sentTotal (code .n) (coefsAt (code .n) 0 (2 ^ code .n / 2) (code .coefs)) (frameTree (code .n) frame)) t → LeastTotal code frame row t
   least-lists t h = record {
-    by = leaves n (h .by);
+    by = leaves (code .n) (h .by);
     meets = from-tree (h .by) (h .meets);
-    gives = sent-leaves n cs frame (h .by) ∙ h .gives;
-    bound = λ u k. le-trans (h .bound (treeOf 0 n u) (to-tree u k)) (le-of-eq (sym (sent-tree n cs frame u (k .word .long))));
+    gives = sent-leaves (code .n) (code .coefs) frame (h .by) ∙ h .gives;
+    bound = λ u k. le-trans (h .bound (treeOf 0 (code .n) u) (to-tree u k)) (le-of-eq (sym (sent-tree (code .n) (code .coefs) frame u (k .word .long))));
   }
 
 -- 64 numbers, each a number more than a held one, of which one is 0: the least of them is that number
@@ -84,32 +85,45 @@ less-least-by v t more z lz vz e b lb =
     let g = e b lb in
     omega arith
 
-module _ (n cap : ℕ) (cs map frame : List ℕ) (g : Coefficients cs) (z : EachZero n frame) (un : Unclipped n cap cs map frame) where
+module _ (code : Code) (mode : Mode) (frame : List ℕ) (g : Coefficients (code .coefs))
+    (z : EachZero (code .n) frame) (un : Unclipped code mode frame) where
+  -- the number of layers
+  abbrev n : ℕ
+  n = code .n
+
+  -- the coefficients
+  abbrev cs : List ℕ
+  cs = code .coefs
+
+  -- the frozen map
+  abbrev map : List ℕ
+  map = code .map
+
   -- the answer by halves
   abbrev A : BlockAnswer n
-  A = decodeHalves n cap cs map frame
+  A = decodeHalves code mode frame
 
   -- the least total of a row, by the form by halves
-  row-least : (i b : ℕ) (l : i < 2 ^ n) → b < 64 → LeastTotal n cs frame (take i (symbols n cap cs map frame) ++ (b ∷ [])) (heldAndTaken n cap cs map frame i b)
+  row-least : (i b : ℕ) (l : i < 2 ^ n) → b < 64 → LeastTotal code frame (take i (symbols code mode frame) ++ (b ∷ [])) (heldAndTaken code mode frame i b)
   unfolding heldAndTaken decodeHalves
   row-least i b l lb =
-      let same = same-answer n cap cs map frame in
+      let same = same-answer code mode frame in
       let p = place-of n i l .0 in
-      let t : llrAt (at (A .held) p) b + at (A .taken) p ≡ heldAndTaken n cap cs map frame i b
+      let t : llrAt (at (A .held) p) b + at (A .taken) p ≡ heldAndTaken code mode frame i b
       = ap₂ (λ (v : List ℕ) (x : ℕ). getD v b 0 + x) (sym (leaves-number [] n i l (A .held)) ∙ same .same-held i l)
       (sym (leaves-number 0 n i l (A .taken)) ∙ same .same-taken i l) in
-      subst (λ (x : List ℕ). LeastTotal n cs frame (take i x ++ (b ∷ [])) (heldAndTaken n cap cs map frame i b)) (same .same-symbols)
-      (subst (LeastTotal n cs frame (take i (leaves n (A .symbols)) ++ (b ∷ []))) t
-      (least-lists n cs frame (A .symbols) i b l (llrAt (at (A .held) p) b + at (A .taken) p)
-      (exact p cap (coefsAt n 0 (2 ^ n / 2) cs) (treeOf 0 n map) (frameTree n frame) (coefs-nonzero n 0 (2 ^ n / 2) cs g) (halves-unclipped n cap cs map frame un) b lb)))
+      subst (λ (x : List ℕ). LeastTotal code frame (take i x ++ (b ∷ [])) (heldAndTaken code mode frame i b)) (same .same-symbols)
+      (subst (LeastTotal code frame (take i (leaves n (A .symbols)) ++ (b ∷ []))) t
+      (least-lists code frame (A .symbols) i b l (llrAt (at (A .held) p) b + at (A .taken) p)
+      (exact p mode (coefsAt n 0 (2 ^ n / 2) cs) (treeOf 0 n map) (frameTree n frame) (coefs-nonzero n 0 (2 ^ n / 2) cs g) (halves-unclipped code mode frame un) b lb)))
 
   -- what is held, less the least
-  pub least-totals : (i : ℕ) → i < 2 ^ n → LeastTotals n cap cs map frame i
+  pub least-totals : (i : ℕ) → i < 2 ^ n → LeastTotals code mode frame i
   unfolding heldAndTaken
   least-totals i l =
-      let hz = held-zero n cap cs map frame g z i l in
+      let hz = held-zero code mode frame g z i l in
       record {
         least = λ b lb. row-least i b l lb;
-        less-least = less-least-by (λ b. getD (held n cap cs map frame i) b 0) (heldAndTaken n cap cs map frame i) (takenOff n cap cs frame (symbols n cap cs map frame) i)
+        less-least = less-least-by (λ b. getD (held code mode frame i) b 0) (heldAndTaken code mode frame i) (takenOff code mode frame (symbols code mode frame) i)
             (hz .zero-at) (hz .within) (hz .is-zero) (λ b lb. refl);
       }

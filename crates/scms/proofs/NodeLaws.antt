@@ -1,5 +1,5 @@
 -- The entries of the nodes' vectors.
-use mathlib.Core.Path.{_≡_, sym, ap, ap₂, _∙_, subst}
+use mathlib.Core.Path.{_≡_, refl, sym, ap, ap₂, _∙_, subst}
 use mathlib.Core.Bool.{Bool, cond}
 use mathlib.Core.List.{List}
 use Prim.Native.Nat.{ℕ, _+_, _-_, _≤_, _<_, min}
@@ -15,7 +15,7 @@ use Rattle.vector.proofs.Laws.{length-tabulate, getD-tabulate, sum-none, term-l
 use Rattle.gf64.specs.Field.{_⊕_, _⊙_, inverse, NonZero}
 use Rattle.gf64.proofs.SumLaws.{sum-lt, sum-back}
 use Rattle.gf64.proofs.ProductLaws.{product-lt, product-injective, undoes-inverse}
-use Rattle.scms.specs.Nodes.{scaled, checkNode, sums, subtractLeast, clipped, exceeding, lowered, variableNode, clippedEntries}
+use Rattle.scms.specs.Nodes.{ordered, checkFrom, checkNode, sumsFrom, sums, lessFrom, subtractLeast, clipped, exceeding, lowered, variableNode, clippedEntries}
 
 -- ---- the count of what exceeds the cap
 
@@ -44,50 +44,50 @@ none-exceeding cap v h = sum-none 64 (λ i. cond (ltb cap (getD v i 0)) 1 0) (λ
 
 module _ (h : ℕ) (v w : List ℕ) where
   -- φ's vector in the order of c
-  scaled-at : (c : ℕ) → c < 64 → getD (scaled h w) c 0 ≡ getD w (h ⊙ c) 0
-  unfolding scaled
-  scaled-at c l = getD-tabulate 0 64 (λ i. getD w (h ⊙ i) 0) c l
+  ordered-at : (c : ℕ) → c < 64 → getD (ordered h w) c 0 ≡ getD w (h ⊙ c) 0
+  unfolding ordered
+  ordered-at c l = getD-tabulate 0 64 (λ i. getD w (h ⊙ i) 0) c l
 
   -- a sum with it
-  with-scaled : (x c : ℕ) → c < 64 → x + getD (scaled h w) c 0 ≡ x + getD w (h ⊙ c) 0
-  with-scaled x c l = ap (λ (y : ℕ). x + y) (scaled-at c l)
+  with-ordered : (x c : ℕ) → c < 64 → x + getD (ordered h w) c 0 ≡ x + getD w (h ⊙ c) 0
+  with-ordered x c l = ap (λ (y : ℕ). x + y) (ordered-at c l)
 
   -- ---- the check node
 
   -- its entry b is a least
-  check-entry : (b : ℕ) → b < 64 → getD (checkNode h v w) b 0 ≡ leastTo 63 (λ c. getD v (b ⊕ c) 0 + getD (scaled h w) c 0)
-  unfolding checkNode
-  check-entry b l = getD-tabulate 0 64 (λ a. leastTo 63 (λ c. getD v (a ⊕ c) 0 + getD (scaled h w) c 0)) b l
+  check-entry : (b : ℕ) → b < 64 → getD (checkNode h v w) b 0 ≡ leastTo 63 (λ c. getD v (b ⊕ c) 0 + getD (ordered h w) c 0)
+  unfolding checkNode checkFrom
+  check-entry b l = getD-tabulate 0 64 (λ a. leastTo 63 (λ c. getD v (a ⊕ c) 0 + getD (ordered h w) c 0)) b l
 
   -- no sum is below it
   pub check-le : (b c : ℕ) → b < 64 → c < 64 → getD (checkNode h v w) b 0 ≤ getD v (b ⊕ c) 0 + getD w (h ⊙ c) 0
   check-le b c lb lc =
       le-trans (le-of-eq (check-entry b lb))
-      (le-trans (least-to-le 63 (λ i. getD v (b ⊕ i) 0 + getD (scaled h w) i 0) c (le-of-suc-le-suc lc)) (le-of-eq (with-scaled (getD v (b ⊕ c) 0) c lc)))
+      (le-trans (least-to-le 63 (λ i. getD v (b ⊕ i) 0 + getD (ordered h w) i 0) c (le-of-suc-le-suc lc)) (le-of-eq (with-ordered (getD v (b ⊕ c) 0) c lc)))
 
   -- and one sum is it
   pub check-at : (b : ℕ) → b < 64 → (c : ℕ) × (c < 64) × (getD v (b ⊕ c) 0 + getD w (h ⊙ c) 0 ≡ getD (checkNode h v w) b 0)
   check-at b lb =
-      let p = least-to-at 63 (λ i. getD v (b ⊕ i) 0 + getD (scaled h w) i 0) in
+      let p = least-to-at 63 (λ i. getD v (b ⊕ i) 0 + getD (ordered h w) i 0) in
       let l : p .0 < 64 = (let q = p .1 in omega arith) in
-      (p .0, l, sym (with-scaled (getD v (b ⊕ p .0) 0) (p .0) l) ∙ p .2 ∙ sym (check-entry b lb))
+      (p .0, l, sym (with-ordered (getD v (b ⊕ p .0) 0) (p .0) l) ∙ p .2 ∙ sym (check-entry b lb))
 
   -- ---- the variable node with θ's symbol u
 
   module _ (u : ℕ) where
     -- its sums
     pub sums-at : (c : ℕ) → c < 64 → getD (sums h u v w) c 0 ≡ getD v (u ⊕ c) 0 + getD w (h ⊙ c) 0
-    unfolding sums
-    sums-at c l = getD-tabulate 0 64 (λ i. getD v (u ⊕ i) 0 + getD (scaled h w) i 0) c l ∙ with-scaled (getD v (u ⊕ c) 0) c l
+    unfolding sums sumsFrom
+    sums-at c l = getD-tabulate 0 64 (λ i. getD v (u ⊕ i) 0 + getD (ordered h w) i 0) c l ∙ with-ordered (getD v (u ⊕ c) 0) c l
 
     -- what is taken off is no more than any sum
     pub taken-le : (c : ℕ) → c < 64 → lowered h u v w .taken ≤ getD (sums h u v w) c 0
-    unfolding lowered subtractLeast
+    unfolding lowered lessFrom sums subtractLeast
     taken-le c l = least-le (sums h u v w) c l
 
     -- what is left of a sum
     pub rest-at : (c : ℕ) → c < 64 → getD (lowered h u v w .rest) c 0 ≡ getD (sums h u v w) c 0 - lowered h u v w .taken
-    unfolding lowered subtractLeast
+    unfolding lowered lessFrom sums subtractLeast
     rest-at c l = less-least-at (sums h u v w) c l
 
     -- an entry after the cap
@@ -104,17 +104,39 @@ module _ (h : ℕ) (v w : List ℕ) where
         ap (λ (x : ℕ). x + lowered h u v w .taken) (variable-at cap c l ∙ min-eq-right k ∙ rest-at c l)
         ∙ sub-add-cancel (taken-le c l) ∙ sums-at c l
 
+-- ---- the nodes from φ's vector in the order of c
+
+-- the check node
+pub check-from : (h : ℕ) (theta phi : List ℕ) → checkFrom theta (ordered h phi) ≡ checkNode h theta phi
+unfolding checkNode
+check-from h theta phi = refl
+
+-- the variable node
+pub llrs-from : (cap h u : ℕ) (theta phi : List ℕ) → clipped cap (lessFrom u theta (ordered h phi) .rest) ≡ variableNode cap h u theta phi
+unfolding variableNode lowered
+llrs-from cap h u theta phi = refl
+
+-- its count of clipped entries
+pub count-from : (cap h u : ℕ) (theta phi : List ℕ) → exceeding cap (lessFrom u theta (ordered h phi) .rest) ≡ clippedEntries cap h u theta phi
+unfolding clippedEntries lowered
+count-from cap h u theta phi = refl
+
 -- ---- what each node keeps: 64 entries, a 0, a bound
+
+-- a vector after the clip has 64 entries
+pub clipped-long : (cap : ℕ) (v : List ℕ) → length (clipped cap v) ≡ 64
+unfolding clipped
+clipped-long cap v = length-tabulate 64 (λ c. min cap (getD v c 0))
 
 -- a check node has 64 entries
 pub check-long : (h : ℕ) (v w : List ℕ) → length (checkNode h v w) ≡ 64
-unfolding checkNode
-check-long h v w = length-tabulate 64 (λ b. leastTo 63 (λ c. getD v (b ⊕ c) 0 + getD (scaled h w) c 0))
+unfolding checkNode checkFrom
+check-long h v w = length-tabulate 64 (λ b. leastTo 63 (λ c. getD v (b ⊕ c) 0 + getD (ordered h w) c 0))
 
 -- so has a variable node
 pub variable-long : (cap h u : ℕ) (v w : List ℕ) → length (variableNode cap h u v w) ≡ 64
-unfolding variableNode clipped
-variable-long cap h u v w = length-tabulate 64 (λ c. min cap (getD (lowered h u v w .rest) c 0))
+unfolding variableNode
+variable-long cap h u v w = clipped-long cap (lowered h u v w .rest)
 
 -- the value c that φ's value z belongs to: h ⊙ c is z
 module _ (h : ℕ) (u : NonZero h) (z : ℕ) (lz : z < 64) where
@@ -144,7 +166,7 @@ check-zero h v w u zv zw =
 
 -- a variable node always holds one
 pub variable-zero : (cap h u : ℕ) (v w : List ℕ) → HasZero (variableNode cap h u v w)
-unfolding lowered subtractLeast
+unfolding lowered lessFrom sums subtractLeast
 variable-zero cap h u v w =
     let p = less-least-zero (sums h u v w) in
     record {

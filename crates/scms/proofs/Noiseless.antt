@@ -6,10 +6,11 @@ use native.Mathlib.Nat.{le-refl}
 use native.Mathlib.Omega.{arith}
 use lib.ListN.{length, getD}
 use Rattle.vector.specs.Vector.{vectorAt, OnlyZero}
-use Rattle.polar_code.specs.Code.{kindOf, Coefficients, IsWord}
-use Rattle.polar.specs.Transform.{theta, phi, coefficient, layer, layers, transform, Turned}
+use Rattle.polar_code.specs.Code.{Code, kindOf, Coefficients, IsWord}
+use Rattle.polar.specs.Transform.{theta, phi, coefficient, layer, layers, transform, KernelMade}
 use Rattle.polar.proofs.Kernels.{theta-lt, phi-lt}
-use Rattle.polar.proofs.LayerLaws.{layer-turned, layers-word}
+use Rattle.polar.proofs.LayerLaws.{layer-kernel, layers-word}
+use Rattle.scms.specs.Mode.{Mode}
 use Rattle.scms.specs.Nodes.{checkNode, variableNode}
 use Rattle.scms.specs.Decoder.{thetaSymbol, vectors, heldAt, symbols}
 use Rattle.scms.specs.Totals.{InCode}
@@ -19,7 +20,24 @@ use Rattle.scms.proofs.DecisionLaws.{decision-only}
 use Rattle.scms.proofs.VectorLaws.{coefficient-nonzero, each-layer}
 use Rattle.scms.proofs.AnswerLaws.{answer-is}
 
-module _ (n cap : ℕ) (cs map frame u : List ℕ) (hc : 1 ≤ cap) (g : Coefficients cs) (c : InCode n map u) (sent : Sent n frame (transform n cs u)) where
+module _ (code : Code) (mode : Mode) (frame u : List ℕ) (hc : 1 ≤ mode .cap)
+    (g : Coefficients (code .coefs)) (c : InCode code u) (sent : Sent (code .n) frame (transform (code .n) (code .coefs) u)) where
+  -- the number of layers
+  abbrev n : ℕ
+  n = code .n
+
+  -- the cap of its variable nodes
+  abbrev cap : ℕ
+  cap = mode .cap
+
+  -- the coefficients
+  abbrev cs : List ℕ
+  cs = code .coefs
+
+  -- the frozen map
+  abbrev map : List ℕ
+  map = code .map
+
   -- a word of the code is a word
   w : IsWord n u
   w = c .word
@@ -28,18 +46,18 @@ module _ (n cap : ℕ) (cs map frame u : List ℕ) (hc : 1 ≤ cap) (g : Coeffic
   abbrev x : ℕ → List ℕ
   x d = layers n (n - d) cs u
 
-  -- layer d + 1 turns the word after layers n to d + 2 into the word after itself
-  turned : (d m : ℕ) → d + suc m ≡ n → (t : ℕ) → t < 2 ^ n / 2 → Turned n (suc d) t cs (x (suc d)) (x d)
+  -- layer d + 1 makes the word after itself of the word after layers n to d + 2
+  kernel-made : (d m : ℕ) → d + suc m ≡ n → (t : ℕ) → t < 2 ^ n / 2 → KernelMade n (suc d) t cs (x (suc d)) (x d)
   unfolding layers
-  turned d m e t lt =
+  kernel-made d m e t lt =
       let a : n - d ≡ suc m = omega arith in
       let b : n - suc d ≡ m = omega arith in
       let c : n - m ≡ suc d = omega arith in
       let q : layers n (n - d) cs u ≡ layer n (suc d) cs (layers n m cs u)
       = ap (λ (k : ℕ). layers n k cs u) a ∙ ap (λ (k : ℕ). layer n k cs (layers n m cs u)) c in
-      subst (λ (k : ℕ). Turned n (suc d) t cs (layers n k cs u) (layers n (n - d) cs u)) (sym b)
-      (subst (λ (y : List ℕ). Turned n (suc d) t cs (layers n m cs u) y) (sym q)
-      (layer-turned n d m e cs (layers n m cs u) (subst (λ (k : ℕ). length (layers n k cs u) ≡ 2 ^ n) b (layers-word n (n - suc d) cs u w .long)) t lt))
+      subst (λ (k : ℕ). KernelMade n (suc d) t cs (layers n k cs u) (layers n (n - d) cs u)) (sym b)
+      (subst (λ (y : List ℕ). KernelMade n (suc d) t cs (layers n m cs u) y) (sym q)
+      (layer-kernel n d m e cs (layers n m cs u) (subst (λ (k : ℕ). length (layers n k cs u) ≡ 2 ^ n) b (layers-word n (n - suc d) cs u w .long)) t lt))
 
   -- kernel t of layer d + 1: both its nodes are 0 at the word's symbols alone, if the two vectors that they are made from are
   module _ (d m : ℕ) (e : d + suc m ≡ n) (t : ℕ) (lt : t < 2 ^ n / 2) where
@@ -59,32 +77,32 @@ module _ (n cap : ℕ) (cs map frame u : List ℕ) (hc : 1 ≤ cap) (g : Coeffic
     kernel-only : (v y : List ℕ) → OnlyZero v (getD (x d) (theta n (suc d) t) 0) → OnlyZero y (getD (x d) (phi n (suc d) t) 0)
         → OnlyZero (checkNode h v y) p × OnlyZero (variableNode cap h p v y) r
     kernel-only v y ov oy =
-        let made = turned d m e t lt in
+        let made = kernel-made d m e t lt in
         let nz = coefficient-nonzero n (suc d) t cs g in
         let word = layers-word n (n - suc d) cs u w in
         let lp = word .symbols (theta n (suc d) t) (theta-lt n d m e t lt) in
         let lr = word .symbols (phi n (suc d) t) (phi-lt n d m e t lt) in
         let a = subst (OnlyZero v) (made .sum) ov in
-        let b = subst (OnlyZero y) (made .scaled) oy in
+        let b = subst (OnlyZero y) (made .product) oy in
         (check-only h v y p r nz lp lr a b, variable-only h v y p r nz lp lr a b cap hc)
 
   -- each vector of layer d is 0 at the symbol of the word there, and nowhere else
-  only-zero : (d : ℕ) → d ≤ n → (j : ℕ) → j < 2 ^ n → OnlyZero (getD (vectors n cap cs frame u d) j []) (getD (x d) j 0)
+  only-zero : (d : ℕ) → d ≤ n → (j : ℕ) → j < 2 ^ n → OnlyZero (getD (vectors code mode frame u d) j []) (getD (x d) j 0)
   unfolding thetaSymbol transform
-  only-zero = each-layer n cap cs frame u (λ d j v. OnlyZero v (getD (x d) j 0))
+  only-zero = each-layer code mode frame u (λ d j v. OnlyZero v (getD (x d) j 0))
       (λ j lj. let z : n - 0 ≡ n = omega arith in subst (λ (k : ℕ). OnlyZero (vectorAt frame j) (getD (layers n k cs u) j 0)) (sym z) (sent j lj))
       (λ d m e t lt. kernel-only d m e t lt _ _)
 
   -- so each symbol of the word is decided from what is held with it
-  decided-so : symbols n cap cs map frame ≡ u
+  decided-so : symbols code mode frame ≡ u
   unfolding heldAt layers
   decided-so =
-      answer-is n cap cs map frame u (w .long) (λ i l.
+      answer-is code mode frame u (w .long) (λ i l.
       let z : n - n ≡ 0 = omega arith in
-      let k : OnlyZero (getD (vectors n cap cs frame u n) i []) (getD u i 0)
-      = subst (λ (j : ℕ). OnlyZero (getD (vectors n cap cs frame u n) i []) (getD (layers n j cs u) i 0)) z (only-zero n (le-refl n) i l) in
-      sym (decision-only (kindOf (getD map i 0)) (getD (vectors n cap cs frame u n) i []) (getD u i 0) (w .symbols i l) (λ f e. c .holds i f l e) k))
+      let k : OnlyZero (getD (vectors code mode frame u n) i []) (getD u i 0)
+      = subst (λ (j : ℕ). OnlyZero (getD (vectors code mode frame u n) i []) (getD (layers n j cs u) i 0)) z (only-zero n (le-refl n) i l) in
+      sym (decision-only (kindOf (getD map i 0)) (getD (vectors code mode frame u n) i []) (getD u i 0) (w .symbols i l) (λ f e. c .holds i f l e) k))
 
 -- without noise the decoder answers the word before the transform
-pub noiseless : (n cap : ℕ) (cs map frame u : List ℕ) → Noiseless n cap cs map frame u
-noiseless n cap cs map frame u hc g c sent = decided-so n cap cs map frame u hc g c sent
+pub noiseless : (code : Code) (mode : Mode) (frame u : List ℕ) → Noiseless code mode frame u
+noiseless code mode frame u hc g c sent = decided-so code mode frame u hc g c sent

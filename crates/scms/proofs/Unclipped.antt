@@ -9,49 +9,66 @@ use lib.Dec.{lit≤}
 use lib.Pow.{pow-mono}
 use Rattle.vector.specs.Vector.{sumTo}
 use Rattle.vector.proofs.Laws.{sum-none, term-le}
-use Rattle.polar_code.specs.Code.{Coefficients}
-use Rattle.scms.specs.Decoder.{capOf, loweredAt, clippedAt, clipCount, symbols, count}
+use Rattle.polar_code.specs.Code.{Code, Coefficients}
+use Rattle.scms.specs.Mode.{Mode, capOf, modeOf}
+use Rattle.scms.specs.Decoder.{loweredAt, clippedAt, clipCount, symbols, count}
 use Rattle.scms.specs.Totals.{EachZero, EachAtMost, Unclipped}
 use Rattle.scms.specs.Claims.{CountZero, NeverClipped}
 use Rattle.scms.proofs.NodeLaws.{exceeding-none, none-exceeding}
 use Rattle.scms.proofs.Bounds.{never-exceeds}
 use Rattle.scms.proofs.AnswerLaws.{symbols-word}
 
-module _ (n cap : ℕ) (cs map frame : List ℕ) where
+module _ (code : Code) (mode : Mode) (frame : List ℕ) where
+  -- the number of layers
+  abbrev n : ℕ
+  n = code .n
+
+  -- the cap of its variable nodes
+  abbrev cap : ℕ
+  cap = mode .cap
+
+  -- the coefficients
+  abbrev cs : List ℕ
+  cs = code .coefs
+
+  -- the frozen map
+  abbrev map : List ℕ
+  map = code .map
+
   -- the symbols answered
   abbrev s : List ℕ
-  s = symbols n cap cs map frame
+  s = symbols code mode frame
 
   -- the clipped entries of one layer
   inLayer : ℕ → ℕ
-  inLayer d = sumTo (2 ^ n / 2) (clippedAt n cap cs frame s (suc d))
+  inLayer d = sumTo (2 ^ n / 2) (clippedAt code mode frame s (suc d))
 
   -- a count of 0 has no clipped entry
-  count-unclipped : count n cap cs map frame ≡ 0 → Unclipped n cap cs map frame
+  count-unclipped : count code mode frame ≡ 0 → Unclipped code mode frame
   unfolding count clipCount inLayer clippedAt
   count-unclipped e zero t c lw lt lc = absurd (let a = lw .least in omega arith)
   count-unclipped e (suc d) t c lw lt lc =
       let a = term-le n inLayer d (lw .most) in
-      let b = term-le (2 ^ n / 2) (clippedAt n cap cs frame s (suc d)) t lt in
-      exceeding-none cap (loweredAt n cap cs frame s (suc d) t .rest) (le-zero (subst (λ (x : ℕ). clippedAt n cap cs frame s (suc d) t ≤ x) e (le-trans b a))) c lc
+      let b = term-le (2 ^ n / 2) (clippedAt code mode frame s (suc d)) t lt in
+      exceeding-none cap (loweredAt code mode frame s (suc d) t .rest) (le-zero (subst (λ (x : ℕ). clippedAt code mode frame s (suc d) t ≤ x) e (le-trans b a))) c lc
 
   -- and where no entry is clipped the count is 0
-  unclipped-zero : Unclipped n cap cs map frame → count n cap cs map frame ≡ 0
+  unclipped-zero : Unclipped code mode frame → count code mode frame ≡ 0
   unfolding count clipCount inLayer clippedAt
   unclipped-zero u = sum-none n inLayer (λ d ld.
-      sum-none (2 ^ n / 2) (clippedAt n cap cs frame s (suc d)) (λ t lt.
-      none-exceeding cap (loweredAt n cap cs frame s (suc d) t .rest) (λ c lc. u (suc d) t c (record { least = omega arith; most = ld }) lt lc)))
+      sum-none (2 ^ n / 2) (clippedAt code mode frame s (suc d)) (λ t lt.
+      none-exceeding cap (loweredAt code mode frame s (suc d) t .rest) (λ c lc. u (suc d) t c (record { least = omega arith; most = ld }) lt lc)))
 
   -- so the count is 0 exactly where the frame is unclipped
-  pub count-zero : CountZero n cap cs map frame
+  pub count-zero : CountZero code mode frame
   count-zero = record { zero-unclipped = count-unclipped; unclipped-zero = unclipped-zero }
 
   -- where 2^n times the largest penalty of the frame is within the cap, nothing is clipped
-  pub unclipped-by : (most : ℕ) → Coefficients cs → EachZero n frame → EachAtMost n most frame → most * 2 ^ n ≤ cap → Unclipped n cap cs map frame
-  unclipped-by most g z m hc = never-exceeds n cap cs frame s g z most (symbols-word n cap cs map frame) m hc
+  pub unclipped-by : (most : ℕ) → Coefficients cs → EachZero n frame → EachAtMost n most frame → most * 2 ^ n ≤ cap → Unclipped code mode frame
+  unclipped-by most g z m hc = never-exceeds code mode frame s g z most (symbols-word code mode frame) m hc
 
 -- at Qm = 13 nothing is clipped
-pub never-clipped : (n : ℕ) (cs map frame : List ℕ) → NeverClipped n cs map frame
+pub never-clipped : (code : Code) (frame : List ℕ) → NeverClipped code frame
 unfolding capOf
-never-clipped n cs map frame hn g z m =
-    unclipped-by n (capOf 13) cs map frame 31 g z m (le-trans (mul-le-mul (le-refl 31) (pow-mono {i = n} {j = 8} hn)) (lit≤ tt))
+never-clipped code frame hn g z m =
+    unclipped-by code (modeOf 13) frame 31 g z m (le-trans (mul-le-mul (le-refl 31) (pow-mono {i = code .n} {j = 8} hn)) (lit≤ tt))

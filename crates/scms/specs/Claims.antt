@@ -1,86 +1,104 @@
--- What is said of the decoder: of all its vectors, of its answer place by place, and of the whole word. Each is proved from the definitions, for
--- every n, every cap, every code with coefficients from 1 to 63 and every frame whose vectors each hold a 0, and with what else its comment
--- asks for.
+-- What is said of the decoder: of all its vectors, of its answer place by place, and of the whole word. Each is proved
+-- from the definitions, for every n, every cap, every code with coefficients from 1 to 63 and every frame whose vectors
+-- each hold a 0, and with what else its comment asks for.
 use Prim.Native.Nat.{ℕ, _+_, _-_, _/_, _%_, _^_, _≤_, _<_}
 use mathlib.Core.Path.{_≡_}
 use mathlib.Core.List.{List, [], _∷_, _++_}
 use lib.ListN.{getD, take}
 use Rattle.refusal.specs.Tests.{Within}
 use Rattle.vector.specs.Vector.{leastTo, vectorAt, HasZero, AtMost, OnlyZero}
-use Rattle.polar_code.specs.Code.{kindOf, message, frozen, Coefficients}
+use Rattle.vector.specs.Frame.{largestLlr}
+use Rattle.polar_code.specs.Code.{Code, kindOf, Coefficients}
+use Rattle.polar_code.specs.declared.kinds.Kind.the-variants.{Message as message, Frozen as frozen}
 use Rattle.polar.specs.Transform.{theta, phi, coefficient, transform}
+use Rattle.scms.specs.Mode.{Mode, modeOf}
 use Rattle.scms.specs.Nodes.{checkNode, clipped}
-use Rattle.scms.specs.Decoder.{capOf, thetaSymbol, vectors, thetaVector, phiVector, loweredAt, takenOff, heldAt, held, symbols, count}
+use Rattle.scms.specs.Decoder.{thetaSymbol, vectors, thetaVector, phiVector, loweredAt, takenOff}
+use Rattle.scms.specs.Decoder.{heldAt, held, symbols, count}
 use Rattle.scms.specs.Totals.{total, LeastTotal, InCode, EachZero, EachAtMost, Unclipped}
 
--- the update rule at kernel t of layer l: θ gets the vector of the check node, φ that of the variable node, clipped only after the least was
--- subtracted
-pub record UpdateRule (n cap : ℕ) (cs frame s : List ℕ) (l t : ℕ) : Type 0 where
-  pub at-theta : getD (vectors n cap cs frame s l) (theta n l t) []
-      ≡ checkNode (coefficient n l t cs) (thetaVector n cap cs frame s l t) (phiVector n cap cs frame s l t)
-  pub at-phi : getD (vectors n cap cs frame s l) (phi n l t) [] ≡ clipped cap (loweredAt n cap cs frame s l t .rest)
+-- the update rule at kernel t of layer l: θ gets the vector of the check node, φ that of the variable node, clipped
+-- only after the least was subtracted
+pub record UpdateRule (code : Code) (mode : Mode) (frame s : List ℕ) (l t : ℕ) : Type 0 where
+  pub at-theta : getD (vectors code mode frame s l) (theta (code .n) l t) []
+      ≡ checkNode (coefficient (code .n) l t (code .coefs)) (thetaVector code mode frame s l t)
+      (phiVector code mode frame s l t)
+  pub at-phi : getD (vectors code mode frame s l) (phi (code .n) l t) []
+      ≡ clipped (mode .cap) (loweredAt code mode frame s l t .rest)
 
 -- two words have the same symbols at the places before place i
 abbrev pub Agree : ℕ → List ℕ → List ℕ → Type 0
 Agree i s r = (j : ℕ) → j < i → getD s j 0 ≡ getD r j 0
 
--- two words of decided symbols, s and r: what is worked out with them differs only where they differ at an earlier place. For u at the θ of
--- kernel t of layer l these are the places before the half of a block in which φ lies; for what is held at place i, those before i
-pub record OnlyEarlier (n cap : ℕ) (cs frame s r : List ℕ) : Type 0 where
-  pub u-earlier : (l t : ℕ) → Within 1 n l → t < 2 ^ n / 2 → Agree (phi n l t - t % 2 ^ (n - l)) s r
-      → thetaSymbol n l t cs s ≡ thetaSymbol n l t cs r
-  pub held-earlier : (i : ℕ) → i < 2 ^ n → Agree i s r → heldAt n cap cs frame s i ≡ heldAt n cap cs frame r i
+-- two words of decided symbols, s and r: what is worked out with them differs only where they differ at an earlier
+-- place. For u at the θ of kernel t of layer l these are the places before the half of a block in which φ lies; for
+-- what is held at place i, those before i
+pub record OnlyEarlier (code : Code) (mode : Mode) (frame s r : List ℕ) : Type 0 where
+  pub u-earlier : (l t : ℕ) → Within 1 (code .n) l → t < 2 ^ code .n / 2
+      → Agree (phi (code .n) l t - t % 2 ^ (code .n - l)) s r
+      → thetaSymbol (code .n) l t (code .coefs) s ≡ thetaSymbol (code .n) l t (code .coefs) r
+  pub held-earlier : (i : ℕ) → i < 2 ^ code .n → Agree i s r → heldAt code mode frame s i ≡ heldAt code mode frame r i
 
--- Where the frame's penalties are at most the cap: every vector of every layer holds a 0 and no entry above the cap (a check node needs no cap), so
--- at a cap of at most 8,191 the sum of any entry of θ's and any of φ's is below 2^16
-pub record Fits (n cap : ℕ) (cs frame s : List ℕ) : Type 0 where
-  pub zeros : (l i : ℕ) → l ≤ n → i < 2 ^ n → HasZero (getD (vectors n cap cs frame s l) i [])
-  pub capped : (l i : ℕ) → l ≤ n → i < 2 ^ n → AtMost cap (getD (vectors n cap cs frame s l) i [])
-  pub sums-fit : cap ≤ 8191 → (l t b c : ℕ) → Within 1 n l → t < 2 ^ n / 2 → b < 64 → c < 64
-      → getD (thetaVector n cap cs frame s l t) b 0 + getD (phiVector n cap cs frame s l t) c 0 < 2 ^ 16
+-- Where the frame's penalties are at most the cap: every vector of every layer holds a 0 and no entry above the cap (a
+-- check node needs no cap), so at a cap of at most 8,191 the sum of any entry of θ's and any of φ's is below 2^16
+pub record Fits (code : Code) (mode : Mode) (frame s : List ℕ) : Type 0 where
+  pub zeros : (l i : ℕ) → l ≤ code .n → i < 2 ^ code .n → HasZero (getD (vectors code mode frame s l) i [])
+  pub capped : (l i : ℕ) → l ≤ code .n → i < 2 ^ code .n → AtMost (mode .cap) (getD (vectors code mode frame s l) i [])
+  pub sums-fit : mode .cap ≤ largestLlr → (l t b c : ℕ) → Within 1 (code .n) l → t < 2 ^ code .n / 2 → b < 64 → c < 64
+      → getD (thetaVector code mode frame s l t) b 0 + getD (phiVector code mode frame s l t) c 0 < 2 ^ 16
 
 -- the count is 0 exactly where the frame is unclipped
-pub record CountZero (n cap : ℕ) (cs map frame : List ℕ) : Type 0 where
-  pub zero-unclipped : count n cap cs map frame ≡ 0 → Unclipped n cap cs map frame
-  pub unclipped-zero : Unclipped n cap cs map frame → count n cap cs map frame ≡ 0
+pub record CountZero (code : Code) (mode : Mode) (frame : List ℕ) : Type 0 where
+  pub zero-unclipped : count code mode frame ≡ 0 → Unclipped code mode frame
+  pub unclipped-zero : Unclipped code mode frame → count code mode frame ≡ 0
 
--- with penalties of at most 31 (Qc of at most 5), at most 256 places and Qm = 13 every frame is unclipped: 31 × 256 = 7,936 is below the cap, 8,191
-abbrev pub NeverClipped : (n : ℕ) (cs map frame : List ℕ) → Type 0
-NeverClipped n cs map frame =
-    n ≤ 8 → Coefficients cs → EachZero n frame → EachAtMost n 31 frame → Unclipped n (capOf 13) cs map frame
+-- with penalties of at most 31 (Qc of at most 5), at most 256 places and Qm = 13 every frame is unclipped: 31 × 256 =
+-- 7,936 is below the cap, 8,191
+abbrev pub NeverClipped : Code → (frame : List ℕ) → Type 0
+NeverClipped code frame =
+    code .n ≤ 8 → Coefficients (code .coefs) → EachZero (code .n) frame → EachAtMost (code .n) 31 frame
+    → Unclipped code (modeOf 13) frame
 
-module _ (n cap : ℕ) (cs map frame : List ℕ) where
-  -- what is held for value b at place i, and what was taken off along the place's line. In an unclipped frame this is a least total (LeastTotals)
+module _ (code : Code) (mode : Mode) (frame : List ℕ) where
+  -- what is held for value b at place i, and what was taken off along the place's line. In an unclipped frame this is a
+  -- least total (LeastTotals)
   unfoldable pub heldAndTaken : (i b : ℕ) → ℕ
-  heldAndTaken i b = getD (held n cap cs map frame i) b 0 + takenOff n cap cs frame (symbols n cap cs map frame) i
+  heldAndTaken i b = getD (held code mode frame i) b 0 + takenOff code mode frame (symbols code mode frame) i
 
--- In an unclipped frame, what is held for place i: for each value b the least total of the row decided before it, followed by b, less the least of
--- the 64
-pub record LeastTotals (n cap : ℕ) (cs map frame : List ℕ) (i : ℕ) : Type 0 where
-  pub least : (b : ℕ) → b < 64 → LeastTotal n cs frame (take i (symbols n cap cs map frame) ++ (b ∷ [])) (heldAndTaken n cap cs map frame i b)
+-- In an unclipped frame, what is held for place i: for each value b the least total of the row decided before it,
+-- followed by b, less the least of the 64
+pub record LeastTotals (code : Code) (mode : Mode) (frame : List ℕ) (i : ℕ) : Type 0 where
+  pub least : (b : ℕ) → b < 64
+      → LeastTotal code frame (take i (symbols code mode frame) ++ (b ∷ [])) (heldAndTaken code mode frame i b)
   pub less-least : (b : ℕ) → b < 64
-      → getD (held n cap cs map frame i) b 0 ≡ heldAndTaken n cap cs map frame i b - leastTo 63 (heldAndTaken n cap cs map frame i)
+      → getD (held code mode frame i) b 0
+      ≡ heldAndTaken code mode frame i b - leastTo 63 (heldAndTaken code mode frame i)
 
--- the decision at place i, clipped or not: a frozen place gets what it always holds, a message place the smallest value whose held penalty is 0
-pub record Decided (n cap : ℕ) (cs map frame : List ℕ) (i : ℕ) : Type 0 where
-  pub has-zero : HasZero (held n cap cs map frame i)
-  pub frozen-holds : (s : ℕ) → kindOf (getD map i 0) ≡ frozen s → getD (symbols n cap cs map frame) i 0 ≡ s
-  pub message-zero : kindOf (getD map i 0) ≡ message → getD (held n cap cs map frame i) (getD (symbols n cap cs map frame) i 0) 0 ≡ 0
-  pub message-smallest : kindOf (getD map i 0) ≡ message
-      → (b : ℕ) → b < getD (symbols n cap cs map frame) i 0 → getD (held n cap cs map frame i) b 0 ≡ 0 → ⊥
+-- the decision at place i, clipped or not: a frozen place gets what it always holds, a message place the smallest value
+-- whose held penalty is 0
+pub record Decided (code : Code) (mode : Mode) (frame : List ℕ) (i : ℕ) : Type 0 where
+  pub has-zero : HasZero (held code mode frame i)
+  pub frozen-holds : (s : ℕ) → kindOf (getD (code .map) i 0) ≡ frozen s → getD (symbols code mode frame) i 0 ≡ s
+  pub message-zero : kindOf (getD (code .map) i 0) ≡ message
+      → getD (held code mode frame i) (getD (symbols code mode frame) i 0) 0 ≡ 0
+  pub message-smallest : kindOf (getD (code .map) i 0) ≡ message
+      → (b : ℕ) → b < getD (symbols code mode frame) i 0 → getD (held code mode frame i) b 0 ≡ 0 → ⊥
 
--- In an unclipped frame, where all frozen places come first: the word decided is of the code, and every word of the code has a total at least as
--- large as its
-pub record BestWord (n cap : ℕ) (cs map frame : List ℕ) : Type 0 where
-  pub in-code : InCode n map (symbols n cap cs map frame)
-  pub bound : (u : List ℕ) → InCode n map u
-      → total n frame (transform n cs (symbols n cap cs map frame)) ≤ total n frame (transform n cs u)
+-- In an unclipped frame, where all frozen places come first: the word decided is of the code, and every word of the
+-- code has a total at least as large as its
+pub record BestWord (code : Code) (mode : Mode) (frame : List ℕ) : Type 0 where
+  pub in-code : InCode code (symbols code mode frame)
+  pub bound : (u : List ℕ) → InCode code u
+      → total (code .n) frame (transform (code .n) (code .coefs) (symbols code mode frame))
+      ≤ total (code .n) frame (transform (code .n) (code .coefs) u)
 
 -- the frame is that of the codeword x: each place's penalties are 0 at its symbol and nowhere else
 abbrev pub Sent : (n : ℕ) (frame x : List ℕ) → Type 0
 Sent n frame x = (i : ℕ) → i < 2 ^ n → OnlyZero (vectorAt frame i) (getD x i 0)
 
--- without noise: where u is a word of the code and the frame is that of its codeword, the decoder answers u, at every cap from 1 on, clipped or not
-abbrev pub Noiseless : (n cap : ℕ) (cs map frame u : List ℕ) → Type 0
-Noiseless n cap cs map frame u =
-    1 ≤ cap → Coefficients cs → InCode n map u → Sent n frame (transform n cs u) → symbols n cap cs map frame ≡ u
+-- without noise: where u is a word of the code and the frame is that of its codeword, the decoder answers u, at every
+-- cap from 1 on, clipped or not
+abbrev pub Noiseless : Code → Mode → (frame u : List ℕ) → Type 0
+Noiseless code mode frame u =
+    1 ≤ mode .cap → Coefficients (code .coefs) → InCode code u
+    → Sent (code .n) frame (transform (code .n) (code .coefs) u) → symbols code mode frame ≡ u

@@ -4,7 +4,8 @@ use mathlib.Core.Bool.{cond}
 use mathlib.Core.List.{List}
 use lib.Dec.{ltb}
 use lib.ListN.{getD}
-use Rattle.polar_code.specs.Code.{Kind, message, frozen}
+use Rattle.polar_code.specs.declared.kinds.Kind.{Kind}
+use Rattle.polar_code.specs.declared.kinds.Kind.the-variants.{Message as message, Frozen as frozen}
 
 -- the smallest of 0, 1, .., k at which f is least
 unfoldable pub smallestTo : ℕ → (ℕ → ℕ) → ℕ

@@ -3,16 +3,14 @@ use Prim.Native.Nat.{ℕ, zero, suc, _+_, _*_, _/_, _%_, _-_, _^_}
 use mathlib.Core.List.{List, []}
 use lib.ListN.{getD, set, replicate}
 use Rattle.vector.specs.Vector.{tabulate, vectorAt, joined, sumTo}
-use Rattle.polar_code.specs.Code.{kindOf}
+use Rattle.polar_code.specs.Code.{Code, kindOf}
 use Rattle.polar.specs.Transform.{theta, phi, coefficient, atLayer, layers}
+use Rattle.scms.specs.Mode.{Mode}
 use Rattle.scms.specs.Nodes.{Lowered, checkNode, variableNode, lowered, exceeding}
 use Rattle.scms.specs.Decision.{decision}
 
--- the cap of a precision Qm
-unfoldable pub capOf : ℕ → ℕ
-capOf qm = 2 ^ qm - 1
-
--- u, θ's symbol at kernel t of layer l: what the kernels of the later layers, n down to l + 1, make of the symbols decided, s, at place θ
+-- u, θ's symbol at kernel t of layer l: what the kernels of the later layers, n down to l + 1, make of the symbols
+-- decided, s, at place θ
 unfoldable pub thetaSymbol : (n l t : ℕ) (cs s : List ℕ) → ℕ
 thetaSymbol n l t cs s = getD (layers n (n - l) cs s) (theta n l t) 0
 
@@ -23,13 +21,21 @@ nodes n l cap cs s vs =
     (λ t v w. checkNode (coefficient n l t cs) v w)
     (λ t v w. variableNode cap (coefficient n l t cs) (thetaSymbol n l t cs s) v w) vs
 
--- A code, a frame and a cap, and a word s with the symbols decided so far. What s holds at a place not yet decided reaches only vectors of
--- later places (specs/Claims, OnlyEarlier), so it does not matter.
-module _ (n cap : ℕ) (cs frame s : List ℕ) where
+-- A code, a mode, a frame, and a word s with the symbols decided so far. What s holds at a place not yet decided
+-- reaches only vectors of later places (specs/Claims, OnlyEarlier), so it does not matter.
+module _ (code : Code) (mode : Mode) (frame s : List ℕ) where
+  -- the number of layers
+  abbrev n : ℕ
+  n = code .n
+
+  -- the coefficients
+  abbrev cs : List ℕ
+  cs = code .coefs
+
   -- the vectors of layer l, one for each place; those of layer 0 are the frame's
   unfoldable pub vectors : ℕ → List (List ℕ)
   vectors zero = tabulate (2 ^ n) (vectorAt frame)
-  vectors (suc d) = nodes n (suc d) cap cs s (vectors d)
+  vectors (suc d) = nodes n (suc d) (mode .cap) cs s (vectors d)
 
   -- θ's vector that the nodes of kernel t of layer l are given: of layer l − 1
   unfoldable pub thetaVector : (l t : ℕ) → List ℕ
@@ -49,40 +55,42 @@ module _ (n cap : ℕ) (cs frame s : List ℕ) where
 
   -- the count of clipped entries of the variable node of kernel t of layer l
   unfoldable pub clippedAt : (l t : ℕ) → ℕ
-  clippedAt l t = exceeding cap (loweredAt l t .rest)
+  clippedAt l t = exceeding (mode .cap) (loweredAt l t .rest)
 
   -- the count of clipped entries over all variable nodes: layers 1 to n, kernels 0 to N/2 − 1
   unfoldable pub clipCount : ℕ
   clipCount = sumTo n (λ d. sumTo (2 ^ n / 2) (clippedAt (suc d)))
 
-  -- The line of place i: the nodes of layers 1 to n that its vector of layer n is made from. What those of layer l took off: that layer halves
-  -- the block of 2 × 2^(n−l) places in which i lies. In its second half, where i / 2^(n−l) is odd, all 2^(n−l) kernels of the block count; in its
-  -- first half, which check nodes feed, none
+  -- The line of place i: the nodes of layers 1 to n that its vector of layer n is made from. What those of layer l took
+  -- off: that layer halves the block of 2 × 2^(n−l) places in which i lies. In its second half, where i / 2^(n−l) is
+  -- odd, all 2^(n−l) kernels of the block count; in its first half, which check nodes feed, none
   unfoldable pub takenIn : (l i : ℕ) → ℕ
-  takenIn l i = i / 2 ^ (n - l) % 2 * sumTo (2 ^ (n - l)) (λ k. loweredAt l (i / (2 * 2 ^ (n - l)) * 2 ^ (n - l) + k) .taken)
+  takenIn l i =
+      i / 2 ^ (n - l) % 2 * sumTo (2 ^ (n - l)) (λ k. loweredAt l (i / (2 * 2 ^ (n - l)) * 2 ^ (n - l) + k) .taken)
 
   -- what was taken off along the line of place i, from layer 1 to layer n
   unfoldable pub takenOff : ℕ → ℕ
   takenOff i = sumTo n (λ d. takenIn (suc d) i)
 
-module _ (n cap : ℕ) (cs map frame : List ℕ) where
+module _ (code : Code) (mode : Mode) (frame : List ℕ) where
   -- the symbols of the first i places, decided in rising order, and 0 at the places after them
   unfoldable pub decidedTo : ℕ → List ℕ
-  decidedTo zero = replicate (2 ^ n) 0
-  decidedTo (suc i) = let s = decidedTo i in set s i (decision (kindOf (getD map i 0)) (heldAt n cap cs frame s i))
+  decidedTo zero = replicate (2 ^ code .n) 0
+  decidedTo (suc i) =
+      let s = decidedTo i in set s i (decision (kindOf (getD (code .map) i 0)) (heldAt code mode frame s i))
 
   -- the 64 penalties held for place i when it is decided
   unfoldable pub held : ℕ → List ℕ
-  held i = heldAt n cap cs frame (decidedTo i) i
+  held i = heldAt code mode frame (decidedTo i) i
 
   -- the answer: the N symbols
   unfoldable pub symbols : List ℕ
-  symbols = decidedTo (2 ^ n)
+  symbols = decidedTo (2 ^ code .n)
 
   -- the report: for each place, the 64 penalties held when it was decided
   unfoldable pub report : List ℕ
-  report = joined (2 ^ n) held
+  report = joined (2 ^ code .n) held
 
   -- the count of clipped entries over all variable nodes
   unfoldable pub count : ℕ
-  count = clipCount n cap cs frame symbols
+  count = clipCount code mode frame symbols

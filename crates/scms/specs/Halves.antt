@@ -1,14 +1,16 @@
--- The decoder by halves: a block of 2^m places is decoded by decoding its first half from check nodes, and then its second half from
--- variable nodes. A proof device, and the way that the code goes; proofs/ByHalves shows that it gives what specs/Decoder says.
+-- The decoder by halves: a block of 2^m places is decoded by decoding its first half from check nodes, and then its
+-- second half from variable nodes. A proof device, and the way that the code goes; proofs/ByHalves shows that it gives
+-- what specs/Decoder says.
 use Prim.Native.Nat.{ℕ, zero, suc, _+_, _/_, _^_, _<_}
 use mathlib.Core.Path.{_≡_}
 use mathlib.Core.List.{List, []}
 use lib.ListN.{getD}
 use Rattle.vector.specs.Vector.{tabulate, vectorAt, joined}
-use Rattle.polar_code.specs.Code.{kindOf}
+use Rattle.polar_code.specs.Code.{Code, kindOf}
 use Rattle.polar.specs.Tree.{Tree, map1, map3, map4, treeSum, treeOf, leaves}
 use Rattle.polar.specs.Transform.{transform}
 use Rattle.polar.specs.Halves.{Coefs, join, coefsAt}
+use Rattle.scms.specs.Mode.{Mode}
 use Rattle.scms.specs.Nodes.{checkNode, variableNode, lowered, clippedEntries}
 use Rattle.scms.specs.Decision.{decision}
 use Rattle.scms.specs.Decoder.{takenOff, held, symbols, report, count}
@@ -17,8 +19,8 @@ use Rattle.scms.specs.Decoder.{takenOff, held, symbols, report, count}
 abbrev pub Vectors : ℕ → Type 0
 Vectors m = Tree (List ℕ) m
 
--- what decoding a block answers: the symbols decided, their transform, the vectors held, what was taken off along each place's line inside
--- the block, and the count of clipped entries
+-- what decoding a block answers: the symbols decided, their transform, the vectors held, what was taken off along each
+-- place's line inside the block, and the count of clipped entries
 pub record BlockAnswer (m : ℕ) : Type 0 where
   pub symbols : Tree ℕ m
   pub word : Tree ℕ m
@@ -43,19 +45,19 @@ unfoldable pub takenNodes : (m : ℕ) → Tree ℕ m → Vectors m → Vectors m
 takenNodes m h f g u = treeSum m (map4 m (λ k v w s. lowered k s v w .taken) h f g u)
 
 -- the decoder of a block: its coefficients, its map bytes and its vectors
-unfoldable pub decodeTree : (m cap : ℕ) → Coefs m → Tree ℕ m → Vectors m → BlockAnswer m
-decodeTree zero cap k map f =
+unfoldable pub decodeTree : (m : ℕ) → Mode → Coefs m → Tree ℕ m → Vectors m → BlockAnswer m
+decodeTree zero mode k map f =
     let s = decision (kindOf map) f in
     record { symbols = s; word = s; held = f; taken = 0; count = 0 }
-decodeTree (suc m) cap k map f =
-    let a = decodeTree m cap (k .1) (map .0) (checkNodes m (k .0) (f .0) (f .1)) in
-    let b = decodeTree m cap (k .2) (map .1) (variableNodes m cap (k .0) (f .0) (f .1) (a .word)) in
+decodeTree (suc m) mode k map f =
+    let a = decodeTree m mode (k .1) (map .0) (checkNodes m (k .0) (f .0) (f .1)) in
+    let b = decodeTree m mode (k .2) (map .1) (variableNodes m (mode .cap) (k .0) (f .0) (f .1) (a .word)) in
     record {
       symbols = (a .symbols, b .symbols);
       word = join m (k .0) (a .word) (b .word);
       held = (a .held, b .held);
       taken = (a .taken, map1 m (λ x. x + takenNodes m (k .0) (f .0) (f .1) (a .word)) (b .taken));
-      count = a .count + clippedNodes m cap (k .0) (f .0) (f .1) (a .word) + b .count;
+      count = a .count + clippedNodes m (mode .cap) (k .0) (f .0) (f .1) (a .word) + b .count;
     }
 
 -- the vectors of a frame
@@ -63,16 +65,22 @@ unfoldable pub frameTree : (m : ℕ) → List ℕ → Vectors m
 frameTree m frame = treeOf [] m (tabulate (2 ^ m) (vectorAt frame))
 
 -- the whole word, decoded by halves
-unfoldable pub decodeHalves : (n cap : ℕ) (cs map frame : List ℕ) → BlockAnswer n
-decodeHalves n cap cs map frame = decodeTree n cap (coefsAt n 0 (2 ^ n / 2) cs) (treeOf 0 n map) (frameTree n frame)
+unfoldable pub decodeHalves : (code : Code) → Mode → (frame : List ℕ) → BlockAnswer (code .n)
+decodeHalves code mode frame =
+    decodeTree (code .n) mode (coefsAt (code .n) 0 (2 ^ code .n / 2) (code .coefs)) (treeOf 0 (code .n) (code .map))
+    (frameTree (code .n) frame)
 
--- the two forms of the decoder say the same: symbols, vectors held, what was taken off, count; and the word by halves is the decoded word,
--- the transform (by layers) of the symbols answered
-pub record SameAnswer (n cap : ℕ) (cs map frame : List ℕ) : Type 0 where
-  pub same-symbols : leaves n (decodeHalves n cap cs map frame .symbols) ≡ symbols n cap cs map frame
-  pub same-held : (i : ℕ) → i < 2 ^ n → getD (leaves n (decodeHalves n cap cs map frame .held)) i [] ≡ held n cap cs map frame i
-  pub same-report : joined (2 ^ n) (λ i. getD (leaves n (decodeHalves n cap cs map frame .held)) i []) ≡ report n cap cs map frame
-  pub same-taken : (i : ℕ) → i < 2 ^ n
-      → getD (leaves n (decodeHalves n cap cs map frame .taken)) i 0 ≡ takenOff n cap cs frame (symbols n cap cs map frame) i
-  pub same-count : decodeHalves n cap cs map frame .count ≡ count n cap cs map frame
-  pub same-word : leaves n (decodeHalves n cap cs map frame .word) ≡ transform n cs (symbols n cap cs map frame)
+-- the two forms of the decoder say the same: symbols, vectors held, what was taken off, count; and the word by halves
+-- is the decoded word, the transform (by layers) of the symbols answered
+pub record SameAnswer (code : Code) (mode : Mode) (frame : List ℕ) : Type 0 where
+  pub same-symbols : leaves (code .n) (decodeHalves code mode frame .symbols) ≡ symbols code mode frame
+  pub same-held : (i : ℕ) → i < 2 ^ code .n
+      → getD (leaves (code .n) (decodeHalves code mode frame .held)) i [] ≡ held code mode frame i
+  pub same-report : joined (2 ^ code .n) (λ i. getD (leaves (code .n) (decodeHalves code mode frame .held)) i [])
+      ≡ report code mode frame
+  pub same-taken : (i : ℕ) → i < 2 ^ code .n
+      → getD (leaves (code .n) (decodeHalves code mode frame .taken)) i 0
+      ≡ takenOff code mode frame (symbols code mode frame) i
+  pub same-count : decodeHalves code mode frame .count ≡ count code mode frame
+  pub same-word : leaves (code .n) (decodeHalves code mode frame .word)
+      ≡ transform (code .n) (code .coefs) (symbols code mode frame)

@@ -1,5 +1,6 @@
 pub mod Nodes
 pub mod Decision
+pub mod Mode
 pub mod Decoder
 pub mod Totals
 pub mod Claims

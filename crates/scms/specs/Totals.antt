@@ -5,8 +5,10 @@ use mathlib.Core.List.{List}
 use lib.ListN.{length, getD, take}
 use Rattle.refusal.specs.Tests.{Within}
 use Rattle.vector.specs.Vector.{vectorAt, sumTo, HasZero, AtMost}
-use Rattle.polar_code.specs.Code.{kindOf, message, frozen, IsWord}
+use Rattle.polar_code.specs.Code.{Code, kindOf, IsWord}
+use Rattle.polar_code.specs.declared.kinds.Kind.the-variants.{Message as message, Frozen as frozen}
 use Rattle.polar.specs.Transform.{transform}
+use Rattle.scms.specs.Mode.{Mode}
 use Rattle.scms.specs.Decoder.{loweredAt, symbols}
 
 -- the total of a word x: the sum, over its N sent symbols, of the frame's penalty for each
@@ -26,17 +28,20 @@ pub record Begins (n : ℕ) (row u : List ℕ) : Type 0 where
   pub begins : take (length row) u ≡ row
 
 -- t is the least total of a row of symbols
-abbrev pub LeastTotal : (n : ℕ) (cs frame row : List ℕ) → ℕ → Type 0
-LeastTotal n cs frame row t = Least (Begins n row) (λ u. total n frame (transform n cs u)) t
+abbrev pub LeastTotal : Code → (frame row : List ℕ) → ℕ → Type 0
+LeastTotal code frame row t =
+    Least (Begins (code .n) row) (λ u. total (code .n) frame (transform (code .n) (code .coefs) u)) t
 
 -- u, before the transform, is a word of the code: every frozen place has the symbol of its kind, 0
-pub record InCode (n : ℕ) (map u : List ℕ) : Type 0 where
-  pub word : IsWord n u
-  pub holds : (i s : ℕ) → i < 2 ^ n → kindOf (getD map i 0) ≡ frozen s → getD u i 0 ≡ s
+pub record InCode (code : Code) (u : List ℕ) : Type 0 where
+  pub word : IsWord (code .n) u
+  pub holds : (i s : ℕ) → i < 2 ^ code .n → kindOf (getD (code .map) i 0) ≡ frozen s → getD u i 0 ≡ s
 
 -- all frozen places come first: none comes after a message place
-abbrev pub FrozenFirst : (n : ℕ) → List ℕ → Type 0
-FrozenFirst n map = (i j s : ℕ) → i < j → j < 2 ^ n → kindOf (getD map i 0) ≡ message → kindOf (getD map j 0) ≡ frozen s → ⊥
+abbrev pub FrozenFirst : Code → Type 0
+FrozenFirst code =
+    (i j s : ℕ) → i < j → j < 2 ^ code .n → kindOf (getD (code .map) i 0) ≡ message
+    → kindOf (getD (code .map) j 0) ≡ frozen s → ⊥
 
 -- each of the frame's vectors holds a 0
 abbrev pub EachZero : (n : ℕ) → List ℕ → Type 0
@@ -46,8 +51,9 @@ EachZero n frame = (i : ℕ) → i < 2 ^ n → HasZero (vectorAt frame i)
 abbrev pub EachAtMost : (n most : ℕ) → List ℕ → Type 0
 EachAtMost n most frame = (i : ℕ) → i < 2 ^ n → AtMost most (vectorAt frame i)
 
--- the frame is unclipped: in no layer has any kernel's variable node an entry above the cap after the least is subtracted
-abbrev pub Unclipped : (n cap : ℕ) (cs map frame : List ℕ) → Type 0
-Unclipped n cap cs map frame =
-    (l t c : ℕ) → Within 1 n l → t < 2 ^ n / 2 → c < 64
-    → getD (loweredAt n cap cs frame (symbols n cap cs map frame) l t .rest) c 0 ≤ cap
+-- the frame is unclipped: in no layer has any kernel's variable node an entry above the cap after the least is
+-- subtracted
+abbrev pub Unclipped : Code → Mode → (frame : List ℕ) → Type 0
+Unclipped code mode frame =
+    (l t c : ℕ) → Within 1 (code .n) l → t < 2 ^ code .n / 2 → c < 64
+    → getD (loweredAt code mode frame (symbols code mode frame) l t .rest) c 0 ≤ mode .cap

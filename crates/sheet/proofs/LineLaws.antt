@@ -4,8 +4,8 @@ use mathlib.Core.List.{List}
 use Prim.Native.Nat.{ℕ}
 use lib.Dec.{lit<}
 use lib.ListN.{length}
-use Rattle.refusal.specs.Table.{Numbered}
-use Rattle.refusal.proofs.Laws.{Finds, finds-refusal, when-taken, when-refused}
+use Rattle.refusal.specs.Table.{refusalOf, Numbered}
+use Rattle.refusal.proofs.Laws.{when-accepted, when-refused}
 use Rattle.vector.proofs.Laws.{length-tabulate}
 use Rattle.columns.specs.Reading.{spelled, part, numbers}
 use Rattle.sheet.specs.FrameLine.{lineLlrs, lineTable, lineRefusal, lineOutput, LineRead}
@@ -16,23 +16,21 @@ module _ (bytes llrs : List ℕ) where
   line-numbered = (lit< tt, (lit< tt, tt))
 
   -- a line that is refused
-  pub line-refused : {r : ℕ} → Finds (lineTable bytes llrs) r → (r ≡ 0 → ⊥) → LineRead bytes llrs llrs r
+  pub line-refused : {r : ℕ} → refusalOf (lineTable bytes llrs) ≡ r → (r ≡ 0 → ⊥) → LineRead bytes llrs llrs r
   unfolding lineRefusal lineOutput
-  line-refused f h =
-      let e = finds-refusal f in
+  line-refused e h =
       record { answer = sym e; llrs-are = sym (when-refused (lineRefusal bytes llrs) (lineLlrs bytes) llrs (λ q. h (sym e ∙ q))) }
 
-  -- a line that is taken
-  pub line-taken : {after : List ℕ} → Finds (lineTable bytes llrs) 0 → after ≡ lineLlrs bytes → LineRead bytes llrs after 0
+  -- a line that is accepted
+  pub line-accepted : {after : List ℕ} → refusalOf (lineTable bytes llrs) ≡ 0 → after ≡ lineLlrs bytes → LineRead bytes llrs after 0
   unfolding lineRefusal lineOutput
-  line-taken f q =
-      let e = finds-refusal f in
-      record { answer = sym e; llrs-are = q ∙ sym (when-taken (lineRefusal bytes llrs) (lineLlrs bytes) llrs e) }
+  line-accepted e q =
+      record { answer = sym e; llrs-are = q ∙ sym (when-accepted (lineRefusal bytes llrs) (lineLlrs bytes) llrs e) }
 
   -- what is left of it then
-  pub output-taken : lineRefusal bytes llrs ≡ 0 → lineOutput bytes llrs ≡ lineLlrs bytes
+  pub output-accepted : lineRefusal bytes llrs ≡ 0 → lineOutput bytes llrs ≡ lineLlrs bytes
   unfolding lineOutput
-  output-taken e = when-taken (lineRefusal bytes llrs) (lineLlrs bytes) llrs e
+  output-accepted e = when-accepted (lineRefusal bytes llrs) (lineLlrs bytes) llrs e
 
   -- it has 64 numbers
   pub length-llrs : length (lineLlrs bytes) ≡ 64

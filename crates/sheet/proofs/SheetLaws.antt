@@ -7,18 +7,22 @@ use Prim.Native.Nat.{ℕ, zero, suc, _+_, _-_, _*_, _/_, _^_, _<_, _≤_}
 use native.Mathlib.Nat.{le-of-suc-le-suc, not-suc-le-zero, zero-add, mul-le-mul-right}
 use native.Mathlib.Decide.{ℕ-discrete, decLt}
 use native.Mathlib.Omega.{arith}
-use borrow.Author.Tests.{ne-eqb, ltb-false, le-ltb}
+use borrow.Author.Tests.{ne-eqb, ltb-false, lt-ltb, le-ltb}
 use lib.Dec.{eqb, ltb, lit≤, lit<}
 use lib.ListN.{length, getD, take, drop, length-append}
 use lib.Pow.{pow-mono}
 use lib.Seq.{length-take-le, take-all, take-take, take-at}
-use Rattle.refusal.specs.Table.{refusalOf, OneOf, NoneFits, Numbered}
+use Rattle.refusal.specs.Table.{Row, refusalOf, OneOf, NoneFits, Numbered}
 use Rattle.refusal.specs.Returned.{Returned}
-use Rattle.refusal.specs.Tests.{outside, anyOutside, Within}
-use Rattle.refusal.proofs.Laws.{here, later, finds-refusal, taken-none, none-taken, first-refused, first-taken, both-taken, taken-both, when-taken, when-refused, refusal-has}
-use Rattle.refusal.proofs.Within.{not-both, or-left, or-right, or-true-right, inside-within, false-equal, equal-false, unequal-true}
-use Rattle.polar_code.specs.Code.{kindOf, messageCount, messagePlaces, IsCode}
+use Rattle.refusal.specs.Tests.{outside, anyOutside, anyTo, unequal, Within}
+use Rattle.refusal.proofs.Among.{refusal-among}
+use Rattle.refusal.proofs.Laws.{row-fits, row-passed, accepted-none, none-accepted, first-refused, first-accepted, both-accepted, accepted-both, when-accepted, when-refused}
+use Rattle.refusal.proofs.WalkLaws.{same-after}
+use Rattle.refusal.proofs.Within.{or-left, or-right, or-true-right, inside-within, false-equal, equal-false, unequal-true}
+use Rattle.polar_code.specs.Code.{kindOf, messageCount, messagePlaces, layersRow, mapRow, emptyRow, coefsRow, codeOf, IsCode}
+use Rattle.polar_code.specs.Sizes.{placesOf, kernelsOf}
 use Rattle.polar_code.proofs.CodeLaws.{rows-code}
+use Rattle.polar_code.proofs.SizeLaws.{places-are, kernels-are}
 use Rattle.vector.specs.Vector.{tabulate}
 use Rattle.vector.proofs.Laws.{length-tabulate, getD-tabulate}
 use Rattle.columns.specs.Reading.{spelled, part, isLine}
@@ -83,6 +87,33 @@ all-frozen (x ∷ map) e =
 
 -- ---- the form
 module _ (bytes : List ℕ) where
+  -- fewer than five bytes: the first row fits
+  pub form-short : length bytes < 5 → 12 ≡ refusalOf (formTable bytes)
+  form-short l = sym (row-fits 12 _ (lt-ltb (length bytes) 5 l))
+
+  -- the rows on the length and on the lines, for so many lines, of which so many are looked at
+  abbrev linesTable : (lines count : ℕ) → List Row
+  linesTable lines count = (12, unequal (length bytes) (5 * lines)) ∷ (12, anyTo count (λ i. badLine i bytes)) ∷ []
+
+  -- how many lines there must be, by the sizes that `place_count` and `kernel_count` give
+  abbrev triedLines : ℕ
+  triedLines = 1 + placesOf (sheetLayers bytes) + kernelsOf (sheetLayers bytes)
+
+  -- five bytes or more: the other rows, tried with these sizes and with all lines that the bytes have
+  pub form-tried : 5 ≤ length bytes → {r : ℕ}
+      → r ≡ refusalOf ((12, badLine 0 bytes) ∷ layersRow (sheetLayers bytes) ∷ linesTable triedLines (length bytes / 5))
+      → r ≡ refusalOf (formTable bytes)
+  form-tried l e =
+      let lines = sheetLines bytes in
+      e ∙ same-after ((12, badLine 0 bytes) ∷ layersRow (sheetLayers bytes) ∷ []) (linesTable triedLines (length bytes / 5)) (linesTable lines lines) (λ none.
+      let few = inside-within 1 8 (sheetLayers bytes) (none .1 .0) .most in
+      ap₂ (λ (places kernels : ℕ). refusalOf (linesTable (1 + places + kernels) (length bytes / 5))) (places-are _ few) (kernels-are _ few)
+      ∙ same-after ((12, unequal (length bytes) (5 * lines)) ∷ []) _ ((12, anyTo lines (λ i. badLine i bytes)) ∷ []) (λ same.
+      let long = false-equal (length bytes) (5 * lines) (same .0) in
+      let all : length bytes / 5 ≡ lines = omega arith in
+      ap (λ (k : ℕ). refusalOf ((12, anyTo k (λ i. badLine i bytes)) ∷ [])) all))
+      ∙ sym (row-passed 12 _ (le-ltb (length bytes) 5 l))
+
   -- no row on the form has the number 0
   form-numbered : Numbered (formTable bytes)
   form-numbered = (lit< tt, (lit< tt, (lit< tt, (lit< tt, (lit< tt, tt)))))
@@ -90,7 +121,7 @@ module _ (bytes : List ℕ) where
   -- a sheet that no row on the form refuses has all its lines
   pub formed : refusalOf (formTable bytes) ≡ 0 → Formed (sheetLayers bytes) bytes
   formed e =
-      let rows = taken-none (formTable bytes) form-numbered e in
+      let rows = accepted-none (formTable bytes) form-numbered e in
       record {
         is-n = refl;
         layers = inside-within 1 8 (sheetLayers bytes) (rows .1 .1 .0);
@@ -116,8 +147,37 @@ module _ (bytes : List ℕ) where
       let same = ap (λ (k : ℕ). k * (2 ^ k / 2)) (f .is-n) in
       record { few = omega arith; there = omega arith }
 
+  -- the same with the sizes that `place_count` and `kernel_count` give
+  module _ {n size : ℕ} (f : Formed n bytes) (s : size ≡ placesOf n) where
+    pub map-tried : Lines 1 size bytes
+    map-tried = subst (λ (k : ℕ). Lines 1 k bytes) (sym (s ∙ places-are n (f .layers .most))) (map-lines n f)
+
+    pub coefs-tried : {count : ℕ} → count ≡ kernelsOf n → Lines (1 + size) count bytes
+    coefs-tried q = rw (s ∙ places-are n (f .layers .most), q ∙ kernels-are n (f .layers .most)) (coef-lines n f)
+
 -- ---- the refusal, and what is read
 module _ (bytes map coefs : List ℕ) where
+  -- the rows on the buffers and the numbers for these sizes, with the test that is made for row 5
+  abbrev triedContent : (places kernels : ℕ) → List Row
+  triedContent places kernels =
+      (2, ltb (length map) places)
+      ∷ (2, ltb (length coefs) kernels)
+      ∷ mapRow (numbersOn 1 places bytes)
+      ∷ (5, not (anyOutside 1 1 (numbersOn 1 places bytes)))
+      ∷ coefsRow (numbersOn (1 + places) kernels bytes)
+      ∷ []
+
+  -- they give the refusal, where n and the lines are right
+  pub content-tried : (n : ℕ) → Formed n bytes → {r : ℕ} → r ≡ refusalOf (triedContent (placesOf n) (kernelsOf n)) → r ≡ refusalOf (contentTable bytes map coefs)
+  unfolding sheetMap sheetCoefs
+  content-tried n f e =
+      let few = f .layers .most in
+      let same = ap (λ (k : ℕ). refusalOf (triedContent (2 ^ k) (k * (2 ^ k / 2)))) (f .is-n) in
+      e ∙ ap₂ (λ (places kernels : ℕ). refusalOf (triedContent places kernels)) (places-are n few) (kernels-are n few) ∙ same
+      ∙ same-after ((2, ltb (length map) (sheetPlaces bytes)) ∷ (2, ltb (length coefs) (sheetKernels bytes)) ∷ mapRow (sheetMap bytes) ∷ [])
+      _ (emptyRow (sheetMap bytes) ∷ coefsRow (sheetCoefs bytes) ∷ []) (λ none.
+      ap (λ (t : Bool). refusalOf ((5, t) ∷ coefsRow (sheetCoefs bytes) ∷ [])) (sym (all-frozen (sheetMap bytes) (none .1 .1 .0))))
+
   content-numbered : Numbered (contentTable bytes map coefs)
   content-numbered = (lit< tt, (lit< tt, (lit< tt, (lit< tt, (lit< tt, tt)))))
 
@@ -127,32 +187,32 @@ module _ (bytes map coefs : List ℕ) where
   form-refused e h = first-refused (formTable bytes) (contentTable bytes map coefs) e h
 
   -- one that is not: the rest decides
-  pub form-taken : {r s : ℕ} → r ≡ refusalOf (formTable bytes) → r ≡ 0 → s ≡ refusalOf (contentTable bytes map coefs) → s ≡ sheetRefusal bytes map coefs
+  pub form-accepted : {r s : ℕ} → r ≡ refusalOf (formTable bytes) → r ≡ 0 → s ≡ refusalOf (contentTable bytes map coefs) → s ≡ sheetRefusal bytes map coefs
   unfolding sheetRefusal
-  form-taken e z f = first-taken (formTable bytes) (contentTable bytes map coefs) (form-numbered bytes) (sym e ∙ z) f
+  form-accepted e z f = first-accepted (formTable bytes) (contentTable bytes map coefs) (form-numbered bytes) (sym e ∙ z) f
 
-  -- a sheet that no row refuses is taken
-  pub sheet-takes : NoneFits (formTable bytes) → NoneFits (contentTable bytes map coefs) → sheetRefusal bytes map coefs ≡ 0
+  -- a sheet that no row refuses is accepted
+  pub sheet-accepts : NoneFits (formTable bytes) → NoneFits (contentTable bytes map coefs) → sheetRefusal bytes map coefs ≡ 0
   unfolding sheetRefusal
-  sheet-takes f c = both-taken (formTable bytes) (contentTable bytes map coefs) f c
+  sheet-accepts f c = both-accepted (formTable bytes) (contentTable bytes map coefs) f c
 
   module _ (e : sheetRefusal bytes map coefs ≡ 0) where
-    -- and no row refuses a sheet that is taken
+    -- and no row refuses a sheet that is accepted
     pub rows : NoneFits (formTable bytes) × NoneFits (contentTable bytes map coefs)
     unfolding sheetRefusal
-    rows = taken-both (formTable bytes) (contentTable bytes map coefs) (form-numbered bytes) content-numbered e
+    rows = accepted-both (formTable bytes) (contentTable bytes map coefs) (form-numbered bytes) content-numbered e
 
     -- so the sheet has all its lines
     pub lines : Formed (sheetLayers bytes) bytes
-    lines = formed bytes (none-taken (formTable bytes) (rows .0))
+    lines = formed bytes (none-accepted (formTable bytes) (rows .0))
 
     -- it is a code
-    pub is-code : IsCode (sheetLayers bytes) (sheetMap bytes) (sheetCoefs bytes)
+    pub is-code : IsCode (codeOf (sheetLayers bytes) (sheetMap bytes) (sheetCoefs bytes))
     unfolding sheetMap sheetCoefs numbersOn
     is-code =
         let f = rows .0 in
         let c = rows .1 in
-        rows-code (sheetLayers bytes) (sheetMap bytes) (sheetCoefs bytes) (
+        rows-code (codeOf (sheetLayers bytes) (sheetMap bytes) (sheetCoefs bytes)) (
           f .1 .1 .0,
           (
             equal-false _ _ (length-tabulate (sheetPlaces bytes) (λ j. numberOn (1 + j) bytes)),
@@ -181,7 +241,7 @@ module _ (bytes map coefs : List ℕ) where
     unfolding sheetCoefs numbersOn
     coefs-bytes i l =
         let size = length-tabulate (sheetKernels bytes) (λ j. numberOn (1 + sheetPlaces bytes + j) bytes) in
-        let w = is-code .coefs i (omega arith) .most in
+        let w = is-code .nonzero i (omega arith) .most in
         let q = getD-tabulate 1 (sheetKernels bytes) (λ j. numberOn (1 + sheetPlaces bytes + j) bytes) i l in
         omega arith
 
@@ -203,61 +263,57 @@ module _ (bytes map coefs : List ℕ) where
   unfolding sheetAnswer mapRead coefsRead returned
   sheet-refused {r} e h =
       let refusal = sheetRefusal bytes map coefs in
-      let not-taken : refusal ≡ 0 → ⊥ = λ q. h (e ∙ q) in
+      let not-accepted : refusal ≡ 0 → ⊥ = λ q. h (e ∙ q) in
       record {
-        answer = ap₂ (λ (k : ℕ) (vs : List ℕ). record { number = k; values = vs }) e (sym (when-refused refusal (sheetLayers bytes ∷ []) [] not-taken));
-        map-is = sym (when-refused refusal (sheetMap bytes ++ drop (sheetPlaces bytes) map) map not-taken);
-        coefs-are = sym (when-refused refusal (sheetCoefs bytes ++ drop (sheetKernels bytes) coefs) coefs not-taken);
-        code = λ q. absurd (not-taken q);
-        map-room = λ q. absurd (not-taken q);
-        coefs-room = λ q. absurd (not-taken q);
+        answer = ap₂ (λ (k : ℕ) (vs : List ℕ). record { number = k; values = vs }) e (sym (when-refused refusal (sheetLayers bytes ∷ []) [] not-accepted));
+        map-is = sym (when-refused refusal (sheetMap bytes ++ drop (sheetPlaces bytes) map) map not-accepted);
+        coefs-are = sym (when-refused refusal (sheetCoefs bytes ++ drop (sheetKernels bytes) coefs) coefs not-accepted);
+        code = λ q. absurd (not-accepted q);
+        map-room = λ q. absurd (not-accepted q);
+        coefs-room = λ q. absurd (not-accepted q);
       }
 
-  -- a sheet that is taken
-  pub sheet-taken : {n : ℕ} {mapAfter coefsAfter : List ℕ} → sheetRefusal bytes map coefs ≡ 0 → n ≡ sheetLayers bytes
+  -- a sheet that is accepted
+  pub sheet-accepted : {n : ℕ} {mapAfter coefsAfter : List ℕ} → sheetRefusal bytes map coefs ≡ 0 → n ≡ sheetLayers bytes
       → mapAfter ≡ sheetMap bytes ++ drop (sheetPlaces bytes) map → coefsAfter ≡ sheetCoefs bytes ++ drop (sheetKernels bytes) coefs
       → SheetRead bytes map coefs mapAfter coefsAfter (Layers n)
   unfolding sheetAnswer mapRead coefsRead returned
-  sheet-taken e is-n m c =
+  sheet-accepted e is-n m c =
       let refusal = sheetRefusal bytes map coefs in
       record {
         answer = ap₂ (λ (k : ℕ) (vs : List ℕ). record { number = k; values = vs }) (sym e)
-            (ap (λ (k : ℕ). k ∷ []) is-n ∙ sym (when-taken refusal (sheetLayers bytes ∷ []) [] e));
-        map-is = m ∙ sym (when-taken refusal (sheetMap bytes ++ drop (sheetPlaces bytes) map) map e);
-        coefs-are = c ∙ sym (when-taken refusal (sheetCoefs bytes ++ drop (sheetKernels bytes) coefs) coefs e);
+            (ap (λ (k : ℕ). k ∷ []) is-n ∙ sym (when-accepted refusal (sheetLayers bytes ∷ []) [] e));
+        map-is = m ∙ sym (when-accepted refusal (sheetMap bytes ++ drop (sheetPlaces bytes) map) map e);
+        coefs-are = c ∙ sym (when-accepted refusal (sheetCoefs bytes ++ drop (sheetKernels bytes) coefs) coefs e);
         code = is-code;
         map-room = map-room;
         coefs-room = coefs-room;
       }
 
 -- ---- the numbers that a sheet can be refused by, where the buffers have room for every code
-pub sheet-numbers : (bytes map coefs : List ℕ) → 256 ≤ length map → 1024 ≤ length coefs → OneOf (sheetRefusal bytes map coefs) (0 ∷ 1 ∷ 4 ∷ 5 ∷ 6 ∷ 12 ∷ [])
+abbrev left : List ℕ
+left = 1 ∷ 4 ∷ 5 ∷ 6 ∷ 12 ∷ []
+
+-- the refusal is 0 or one of these
+pub sheet-numbers : (bytes map coefs : List ℕ) → 256 ≤ length map → 1024 ≤ length coefs → OneOf (sheetRefusal bytes map coefs) (0 ∷ left)
 sheet-numbers bytes map coefs room space = go (ℕ-discrete (refusalOf (formTable bytes)) 0)
   where
-    go : Dec (refusalOf (formTable bytes) ≡ 0) → OneOf (sheetRefusal bytes map coefs) (0 ∷ 1 ∷ 4 ∷ 5 ∷ 6 ∷ 12 ∷ [])
+    go : Dec (refusalOf (formTable bytes) ≡ 0) → OneOf (sheetRefusal bytes map coefs) (0 ∷ left)
     go (no h) =
-        subst (λ (k : ℕ). OneOf k (0 ∷ 1 ∷ 4 ∷ 5 ∷ 6 ∷ 12 ∷ [])) (form-refused bytes map coefs refl h)
-        (refusal-has (λ k. OneOf k (0 ∷ 1 ∷ 4 ∷ 5 ∷ 6 ∷ 12 ∷ [])) (inl refl) (formTable bytes)
-        ((λ e. twelve), ((λ e. twelve), ((λ e. inr (inl refl)), ((λ e. twelve), ((λ e. twelve), tt))))))
-      where
-        twelve : OneOf 12 (0 ∷ 1 ∷ 4 ∷ 5 ∷ 6 ∷ 12 ∷ [])
-        twelve = inr (inr (inr (inr (inr (inl refl)))))
+        subst (λ (k : ℕ). OneOf k (0 ∷ left)) (form-refused bytes map coefs refl h)
+        (refusal-among left (formTable bytes) (inr tt, (inr tt, (inr tt, (inr tt, (inr tt, tt))))))
     go (yes z) =
         let few = formed bytes z .layers .most in
         let size = pow-mono {i = sheetLayers bytes} {j = 8} few in
         let count = mul-le-mul-right (sheetPlaces bytes / 2) few in
-        subst (λ (k : ℕ). OneOf k (0 ∷ 1 ∷ 4 ∷ 5 ∷ 6 ∷ 12 ∷ [])) (form-taken bytes map coefs refl z refl)
-        (refusal-has (λ k. OneOf k (0 ∷ 1 ∷ 4 ∷ 5 ∷ 6 ∷ 12 ∷ [])) (inl refl) (contentTable bytes map coefs) (
-          (λ e. absurd (not-both (le-ltb (length map) (sheetPlaces bytes) (omega arith)) e)),
-          (
-            (λ e. absurd (not-both (le-ltb (length coefs) (sheetKernels bytes) (omega arith)) e)),
-            ((λ e. inr (inr (inl refl))), ((λ e. inr (inr (inr (inl refl)))), ((λ e. inr (inr (inr (inr (inl refl))))), tt))),
-          ),
-        ))
+        let map-fits = le-ltb (length map) (sheetPlaces bytes) (omega arith) in
+        let coefs-fit = le-ltb (length coefs) (sheetKernels bytes) (omega arith) in
+        subst (λ (k : ℕ). OneOf k (0 ∷ left)) (form-accepted bytes map coefs refl z refl)
+        (refusal-among left (contentTable bytes map coefs) (inl map-fits, (inl coefs-fit, (inr tt, (inr tt, (inr tt, tt))))))
 
 -- ---- what a sheet that was read leaves: a code at the start of the two buffers
 module _ {bytes map coefs m c : List ℕ} {n : ℕ} (read : SheetRead bytes map coefs m c (Layers n)) where
-  -- the sheet was taken
+  -- the sheet was accepted
   accepted : sheetRefusal bytes map coefs ≡ 0
   unfolding returned sheetAnswer
   accepted = sym (ap (λ (x : Returned). x .number) (read .answer))
@@ -267,16 +323,16 @@ module _ {bytes map coefs m c : List ℕ} {n : ℕ} (read : SheetRead bytes map 
   unfolding returned sheetAnswer
   layers-are =
       ap (λ (x : Returned). getD (x .values) 0 0) (read .answer)
-      ∙ ap (λ (xs : List ℕ). getD xs 0 0) (when-taken (sheetRefusal bytes map coefs) (sheetLayers bytes ∷ []) [] accepted)
+      ∙ ap (λ (xs : List ℕ). getD xs 0 0) (when-accepted (sheetRefusal bytes map coefs) (sheetLayers bytes ∷ []) [] accepted)
 
   -- the buffers hold its numbers, and after them what was there
   map-after : m ≡ sheetMap bytes ++ drop (sheetPlaces bytes) map
   unfolding mapRead
-  map-after = read .map-is ∙ when-taken (sheetRefusal bytes map coefs) (sheetMap bytes ++ drop (sheetPlaces bytes) map) map accepted
+  map-after = read .map-is ∙ when-accepted (sheetRefusal bytes map coefs) (sheetMap bytes ++ drop (sheetPlaces bytes) map) map accepted
 
   coefs-after : c ≡ sheetCoefs bytes ++ drop (sheetKernels bytes) coefs
   unfolding coefsRead
-  coefs-after = read .coefs-are ∙ when-taken (sheetRefusal bytes map coefs) (sheetCoefs bytes ++ drop (sheetKernels bytes) coefs) coefs accepted
+  coefs-after = read .coefs-are ∙ when-accepted (sheetRefusal bytes map coefs) (sheetCoefs bytes ++ drop (sheetKernels bytes) coefs) coefs accepted
 
   map-front : take (2 ^ n) m ≡ sheetMap bytes
   map-front =
@@ -289,11 +345,11 @@ module _ {bytes map coefs m c : List ℕ} {n : ℕ} (read : SheetRead bytes map 
       ∙ take-at (sheetCoefs bytes) (drop (sheetKernels bytes) coefs) (sheetKernels bytes) (read .code accepted .coefs-long)
 
   -- so the first N and n × N/2 bytes are a code
-  pub code-read : IsCode n (take (2 ^ n) m) (take (n * (2 ^ n / 2)) c)
+  pub code-read : IsCode (codeOf n (take (2 ^ n) m) (take (n * (2 ^ n / 2)) c))
   code-read =
-      subst (λ (xs : List ℕ). IsCode n xs (take (n * (2 ^ n / 2)) c)) (sym map-front)
-      (subst (λ (xs : List ℕ). IsCode n (sheetMap bytes) xs) (sym coefs-front)
-      (subst (λ (k : ℕ). IsCode k (sheetMap bytes) (sheetCoefs bytes)) (sym layers-are) (read .code accepted)))
+      subst (λ (xs : List ℕ). IsCode (codeOf n xs (take (n * (2 ^ n / 2)) c))) (sym map-front)
+      (subst (λ (xs : List ℕ). IsCode (codeOf n (sheetMap bytes) xs)) (sym coefs-front)
+      (subst (λ (k : ℕ). IsCode (codeOf k (sheetMap bytes) (sheetCoefs bytes))) (sym layers-are) (read .code accepted)))
 
   -- and they are there
   pub map-there : 2 ^ n ≤ length m
@@ -315,23 +371,27 @@ pub number-read : {bytes map coefs m c : List ℕ} {r : Answer} → SheetRead by
 unfolding sheetAnswer
 number-read read = ap (λ (x : Returned). x .number) (read .answer)
 
--- ---- the first 6,406 bytes of a sheet get the verdict that the whole sheet gets
+-- ---- so many bytes of a sheet get the verdict that the whole sheet gets: one more than the longest sheet has, which is
+-- 5 × (1 + 256 + 1,024)
+abbrev pub enough : ℕ
+enough = 6406
+
 module _ (bytes : List ℕ) where
   -- they have the same first line
-  same-line : part 5 0 (take 6406 bytes) ≡ part 5 0 bytes
+  same-line : part 5 0 (take enough bytes) ≡ part 5 0 bytes
   unfolding part
-  same-line = take-take 5 6406 bytes (lit≤ tt)
+  same-line = take-take 5 enough bytes (lit≤ tt)
 
-  same-n : sheetLayers (take 6406 bytes) ≡ sheetLayers bytes
+  same-n : sheetLayers (take enough bytes) ≡ sheetLayers bytes
   unfolding numberOn
   same-n = ap (λ (xs : List ℕ). spelled (take 4 xs)) same-line
 
-  same-first : badLine 0 (take 6406 bytes) ≡ badLine 0 bytes
+  same-first : badLine 0 (take enough bytes) ≡ badLine 0 bytes
   unfolding badLine
   same-first = ap (λ (xs : List ℕ). not (isLine 4 1 xs)) same-line
 
   -- no sheet of more than 6,405 bytes has the right length
-  too-long : Within 1 8 (sheetLayers bytes) → (long : ℕ) → 6406 ≤ long → long ≡ 5 * sheetLines bytes → ⊥
+  too-long : Within 1 8 (sheetLayers bytes) → (long : ℕ) → enough ≤ long → long ≡ 5 * sheetLines bytes → ⊥
   too-long w long l e =
       let few = w .most in
       let size = pow-mono {i = sheetLayers bytes} {j = 8} few in
@@ -340,41 +400,45 @@ module _ (bytes : List ℕ) where
 
   module _ (map coefs : List ℕ) where
     -- a longer sheet
-    cut : 6406 ≤ length bytes → sheetRefusal (take 6406 bytes) map coefs ≡ sheetRefusal bytes map coefs
+    cut : enough ≤ length bytes → sheetRefusal (take enough bytes) map coefs ≡ sheetRefusal bytes map coefs
     unfolding sheetRefusal
     cut l = first (badLine 0 bytes) refl
       where
-        long : length (take 6406 bytes) ≡ 6406
-        long = length-take-le 6406 bytes l
+        long : length (take enough bytes) ≡ enough
+        long = length-take-le enough bytes l
 
-        -- both walks go past the first row
+        -- both tables go on past the first row, and past the second where it does not fit
         there : ltb (length bytes) 5 ≡ false
         there = le-ltb (length bytes) 5 (omega arith)
 
-        cut-there : ltb (length (take 6406 bytes)) 5 ≡ false
-        cut-there = le-ltb (length (take 6406 bytes)) 5 (let e = long in omega arith)
+        cut-there : ltb (length (take enough bytes)) 5 ≡ false
+        cut-there = le-ltb (length (take enough bytes)) 5 (let e = long in omega arith)
+
+        line : badLine 0 bytes ≡ false → refusalOf (sheetTable bytes map coefs) ≡ refusalOf (drop 2 (sheetTable bytes map coefs))
+        line b = row-passed 12 _ there ∙ row-passed 12 _ b
+
+        cut-line : badLine 0 bytes ≡ false
+            → refusalOf (sheetTable (take enough bytes) map coefs) ≡ refusalOf (drop 2 (sheetTable (take enough bytes) map coefs))
+        cut-line b = row-passed 12 _ cut-there ∙ row-passed 12 _ (same-first ∙ b)
 
         -- and end at the same row
         layers : badLine 0 bytes ≡ false → (t : Bool) → outside 1 8 (sheetLayers bytes) ≡ t
-            → refusalOf (sheetTable (take 6406 bytes) map coefs) ≡ refusalOf (sheetTable bytes map coefs)
-        layers b true q =
-            finds-refusal (later cut-there (later (same-first ∙ b) (here (ap (outside 1 8) same-n ∙ q))))
-            ∙ sym (finds-refusal {rs = sheetTable bytes map coefs} (later there (later b (here q))))
+            → refusalOf (sheetTable (take enough bytes) map coefs) ≡ refusalOf (sheetTable bytes map coefs)
+        layers b true q = cut-line b ∙ row-fits 1 _ (ap (outside 1 8) same-n ∙ q) ∙ sym (line b ∙ row-fits 1 _ q)
         layers b false q =
             let w = inside-within 1 8 (sheetLayers bytes) q in
-            let short : (length (take 6406 bytes) ≡ 5 * sheetLines (take 6406 bytes)) → ⊥ = λ e.
-            too-long w (length (take 6406 bytes)) (let cut-long = long in omega arith) (e ∙ ap (λ (n : ℕ). 5 * (1 + 2 ^ n + n * (2 ^ n / 2))) same-n) in
-            finds-refusal (later cut-there (later (same-first ∙ b) (later (ap (outside 1 8) same-n ∙ q) (here (unequal-true _ _ short)))))
-            ∙ sym (finds-refusal {rs = sheetTable bytes map coefs} (later there (later b (later q (here (unequal-true _ _ (too-long w (length bytes) l)))))))
+            let short : (length (take enough bytes) ≡ 5 * sheetLines (take enough bytes)) → ⊥ = λ e.
+            too-long w (length (take enough bytes)) (let cut-long = long in omega arith) (e ∙ ap (λ (n : ℕ). 5 * (1 + 2 ^ n + n * (2 ^ n / 2))) same-n) in
+            cut-line b ∙ row-passed 1 _ (ap (outside 1 8) same-n ∙ q) ∙ row-fits 12 _ (unequal-true _ _ short)
+            ∙ sym (line b ∙ row-passed 1 _ q ∙ row-fits 12 _ (unequal-true _ _ (too-long w (length bytes) l)))
 
-        first : (t : Bool) → badLine 0 bytes ≡ t → refusalOf (sheetTable (take 6406 bytes) map coefs) ≡ refusalOf (sheetTable bytes map coefs)
-        first true b =
-            finds-refusal (later cut-there (here (same-first ∙ b))) ∙ sym (finds-refusal {rs = sheetTable bytes map coefs} (later there (here b)))
+        first : (t : Bool) → badLine 0 bytes ≡ t → refusalOf (sheetTable (take enough bytes) map coefs) ≡ refusalOf (sheetTable bytes map coefs)
+        first true b = row-passed 12 _ cut-there ∙ row-fits 12 _ (same-first ∙ b) ∙ sym (row-passed 12 _ there ∙ row-fits 12 _ b)
         first false b = layers b (outside 1 8 (sheetLayers bytes)) refl
 
-    pub start-decides : sheetRefusal (take 6406 bytes) map coefs ≡ sheetRefusal bytes map coefs
-    start-decides = go (decLt (length bytes) 6406)
+    pub start-decides : sheetRefusal (take enough bytes) map coefs ≡ sheetRefusal bytes map coefs
+    start-decides = go (decLt (length bytes) enough)
       where
-        go : Dec (length bytes < 6406) → sheetRefusal (take 6406 bytes) map coefs ≡ sheetRefusal bytes map coefs
-        go (yes l) = ap (λ (xs : List ℕ). sheetRefusal xs map coefs) (take-all 6406 bytes (omega arith))
+        go : Dec (length bytes < enough) → sheetRefusal (take enough bytes) map coefs ≡ sheetRefusal bytes map coefs
+        go (yes l) = ap (λ (xs : List ℕ). sheetRefusal xs map coefs) (take-all enough bytes (omega arith))
         go (no h) = cut (omega arith)

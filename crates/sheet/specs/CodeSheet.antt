@@ -1,5 +1,5 @@
--- The code sheet: lines of one number in four columns each, first n, then the N map bytes, then the n × N/2 coefficients. What it holds, by which
--- number it is refused, and what `read_sheet` promises.
+-- The code sheet: lines of one number in four columns each, first n, then the N map bytes, then the n × N/2
+-- coefficients. What it holds, by which number it is refused, and what `read_sheet` promises.
 use Prim.Native.Nat.{ℕ, _+_, _*_, _/_, _^_, _≤_}
 use mathlib.Core.Path.{_≡_}
 use mathlib.Core.Bool.{Bool, not, cond}
@@ -11,7 +11,7 @@ use Rattle.refusal.specs.Tests.{anyTo, unequal}
 use Rattle.refusal.specs.Returned.{Returned}
 use Rattle.vector.specs.Vector.{tabulate}
 use Rattle.columns.specs.Reading.{spelled, part, isLine}
-use Rattle.polar_code.specs.Code.{layersRow, mapRow, emptyRow, coefsRow, IsCode}
+use Rattle.polar_code.specs.Code.{layersRow, mapRow, emptyRow, coefsRow, codeOf, IsCode}
 use Rattle.sheet.specs.declared.code_sheet.Answer.{Answer}
 use Rattle.sheet.specs.declared.code_sheet.Answer.the-variants.{Layers, Refused}
 
@@ -27,7 +27,8 @@ numberOn i bytes = spelled (take 4 (part 5 i bytes))
 unfoldable pub numbersOn : (i k : ℕ) → List ℕ → List ℕ
 numbersOn i k bytes = tabulate k (λ j. numberOn (i + j) bytes)
 
--- the number and the values for each case of the answer: a sheet that is taken has n, a refusal its number and no value
+-- the number and the values for each case of the answer: a sheet that is accepted has n, a refusal its number and no
+-- value
 unfoldable pub returned : Answer → Returned
 returned (Layers n) = record { number = 0; values = n ∷ [] }
 returned (Refused number) = record { number = number; values = [] }
@@ -82,11 +83,11 @@ module _ (bytes map coefs : List ℕ) where
   abbrev pub sheetTable : List Row
   sheetTable = formTable bytes ++ contentTable bytes map coefs
 
-  -- the number of the refusal, 0 where the sheet is taken
+  -- the number of the refusal, 0 where the sheet is accepted
   unfoldable pub sheetRefusal : ℕ
   sheetRefusal = refusalOf sheetTable
 
-  -- what is made where the sheet is taken, or on a refusal what is kept
+  -- what is made where the sheet is accepted, or on a refusal what is kept
   abbrev either : List ℕ → List ℕ → List ℕ
   either made kept = cond (eqb sheetRefusal 0) made kept
 
@@ -102,12 +103,12 @@ module _ (bytes map coefs : List ℕ) where
   unfoldable pub coefsRead : List ℕ
   coefsRead = either (sheetCoefs bytes ++ drop (sheetKernels bytes) coefs) coefs
 
-  -- What `read_sheet` promises, for every input: the answer r and the two buffers at exit; and that a sheet that is taken is a code, with room for it
-  -- in the buffers
+  -- What `read_sheet` promises, for every input: the answer r and the two buffers at exit; and that a sheet that is
+  -- accepted is a code, with room for it in the buffers
   pub record SheetRead (mapAfter coefsAfter : List ℕ) (r : Answer) : Type 0 where
     pub answer : returned r ≡ sheetAnswer
     pub map-is : mapAfter ≡ mapRead
     pub coefs-are : coefsAfter ≡ coefsRead
-    pub code : sheetRefusal ≡ 0 → IsCode (sheetLayers bytes) (sheetMap bytes) (sheetCoefs bytes)
+    pub code : sheetRefusal ≡ 0 → IsCode (codeOf (sheetLayers bytes) (sheetMap bytes) (sheetCoefs bytes))
     pub map-room : sheetRefusal ≡ 0 → sheetPlaces bytes ≤ length map
     pub coefs-room : sheetRefusal ≡ 0 → sheetKernels bytes ≤ length coefs

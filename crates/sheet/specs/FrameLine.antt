@@ -22,7 +22,7 @@ module _ (bytes llrs : List ℕ) where
   abbrev pub lineTable : List Row
   lineTable = lengthRow (length llrs) 64 ∷ lineRow bytes ∷ []
 
-  -- the number of the refusal, 0 where the line is taken
+  -- the number of the refusal, 0 where the line is accepted
   unfoldable pub lineRefusal : ℕ
   lineRefusal = refusalOf lineTable
 

@@ -28,11 +28,13 @@ fn write_numbers(bytes: &[u8], first: usize, out: &mut [u8])
     }
 }
 
-// Reads a code sheet, for any bytes and any buffers. Returns n, with the N bytes of the map and the n × N/2 coefficients at the start of the two
-// buffers and what comes after these as it was; or the refusal, and both buffers as they came: 12 for fewer than 5 bytes or a bad first line; 1 for
-// n outside 1 to 8; 12 for a wrong total length or a bad line; 2 for a buffer that is too short; then 4, 5 and 6.
+// Reads a code sheet, for any bytes and any buffers. Returns n, with the N bytes of the map and the n × N/2
+// coefficients at the start of the two buffers and what comes after these as it was; or the refusal, and both buffers
+// as they came: 12 for fewer than 5 bytes or a bad first line; 1 for n outside 1 to 8; 12 for a wrong total length or a
+// bad line; 2 for a buffer that is too short; then 4, 5 and 6.
 pub fn read_sheet(bytes: &[u8], map: &mut [u8], coefs: &mut [u8]) -> Answer
-    ensures { λ r. ⌜ SheetRead (now (bytes .entry)) (now (map .entry)) (now (coefs .entry)) (now (map .exit)) (now (coefs .exit)) r ⌝ }
+    ensures { λ r. ⌜ SheetRead (now (bytes .entry)) (now (map .entry)) (now (coefs .entry))
+        (now (map .exit)) (now (coefs .exit)) r ⌝ }
 {
     let refused = sheet_refusal(bytes, map, coefs);
     if refused != 0 {

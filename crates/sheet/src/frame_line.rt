@@ -20,8 +20,9 @@ fn write_llrs(line: &[u8], llrs: &mut [u16])
     }
 }
 
-// Reads one line of a frame file, 64 numbers in four columns each and a line feed, for any bytes and any output. Returns 0 and the numbers; or
-// 2 for an output of other than 64 numbers, else 12 for bytes that are not such a line, and the output as it came.
+// Reads one line of a frame file, 64 numbers in four columns each and a line feed, for any bytes and any output.
+// Returns 0 and the numbers; or 2 for an output of other than 64 numbers, else 12 for bytes that are not such a line,
+// and the output as it came.
 pub fn read_frame_line(line: &[u8], llrs: &mut [u16]) -> u8
     ensures { λ r. ⌜ LineRead (now (line .entry)) (now (llrs .entry)) (now (llrs .exit)) r ⌝ }
 {

@@ -1,4 +1,5 @@
-// The code sheet and the lines of a frame file, read: numbers in four columns, the lines of a sheet, one line of a frame.
+// The code sheet and the lines of a frame file, read: numbers in four columns, the lines of a sheet, one line of a
+// frame.
 mod code_sheet;
 mod frame_line;
 mod line;

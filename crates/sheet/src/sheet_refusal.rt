@@ -11,7 +11,8 @@ ghost use Rattle.refusal.specs.Tests.{anyOutside, anyTo};
 ghost use Rattle.sheet.specs.CodeSheet.{badLine, numbersOn, formTable, contentTable, sheetRefusal};
 ghost use Rattle.sheet.specs.Parts.{Lines, Formed};
 
-// Whether one of the lines of five bytes is not one number in four columns and a line feed. Bytes after the last whole line are not looked at.
+// Whether one of the lines of five bytes is not one number in four columns and a line feed. Bytes after the last whole
+// line are not looked at.
 fn any_bad_line(bytes: &[u8]) -> bool
     ensures { λ r. ⌜ r ≡ anyTo (length (now (bytes .entry)) / 5) (λ i. badLine i (now (bytes .entry))) ⌝ }
 {
@@ -28,26 +29,20 @@ fn any_bad_line(bytes: &[u8]) -> bool
     false
 }
 
-// The refusal by the form of the sheet and by n, 0 where none of them is wrong.
+// The refusal by the form of the sheet and by n, 0 where none of them is wrong. For an n above 8 the lines are counted
+// as for 8: the row before refuses such a sheet.
 fn form_refusal(bytes: &[u8]) -> u8
     ensures { λ r. ⌜ r ≡ refusalOf (formTable (now (bytes .entry))) ⌝ }
 {
     if bytes.len() < 5 {
         return 12;
     }
-    if !is_line(&bytes[..5], 1) {
-        return 12;
-    }
-    let n = spelled_number(bytes);
-    if refusal::is_outside(n, 1, 8) {
-        return 1;
-    }
-    let layers = n as usize;
-    let lines = 1 + place_count(layers) + kernel_count(layers);
-    if bytes.len() != 5 * lines {
-        return 12;
-    }
-    if any_bad_line(bytes) { 12 } else { 0 }
+    let n = spelled_number(bytes) as usize;
+    let lines = 1 + place_count(n) + kernel_count(n);
+    let r = refusal::first(0, 12, !is_line(&bytes[..5], 1));
+    let r = refusal::first(r, 1, refusal::is_size_outside(n, 1, 8));
+    let r = refusal::first(r, 12, bytes.len() != 5 * lines);
+    refusal::first(r, 12, any_bad_line(bytes))
 }
 
 // Whether one of the numbers on `count` lines from line `first` on is below low or above high.
@@ -68,33 +63,22 @@ fn any_number_outside(bytes: &[u8], first: usize, count: usize, low: u32, high: 
     false
 }
 
-// The refusal by the lengths of the buffers and by the numbers of the map and the coefficients, 0 where none of them is wrong. Where no number of
-// the map is above 1, no place is a message place exactly when all of them are 1.
+// The refusal by the lengths of the buffers and by the numbers of the map and the coefficients, 0 where none of them is
+// wrong. Where no number of the map is above 1, no place is a message place exactly when all of them are 1.
 fn content_refusal(n: usize, bytes: &[u8], map: &[u8], coefs: &[u8]) -> u8
     requires { ⌜ Formed n (now bytes) ⌝ }
     ensures { λ r. ⌜ r ≡ refusalOf (contentTable (now (bytes .entry)) (now (map .entry)) (now (coefs .entry))) ⌝ }
 {
     let size = place_count(n);
     let count = kernel_count(n);
-    if map.len() < size {
-        return 2;
-    }
-    if coefs.len() < count {
-        return 2;
-    }
-    if any_number_outside(bytes, 1, size, 0, 1) {
-        return 4;
-    }
-    if !any_number_outside(bytes, 1, size, 1, 1) {
-        return 5;
-    }
-    if any_number_outside(bytes, 1 + size, count, 1, 63) {
-        return 6;
-    }
-    0
+    let r = refusal::first(0, 2, map.len() < size);
+    let r = refusal::first(r, 2, coefs.len() < count);
+    let r = refusal::first(r, 4, any_number_outside(bytes, 1, size, 0, 1));
+    let r = refusal::first(r, 5, !any_number_outside(bytes, 1, size, 1, 1));
+    refusal::first(r, 6, any_number_outside(bytes, 1 + size, count, 1, 63))
 }
 
-// The number by which `read_sheet` refuses, 0 where it takes the sheet.
+// The number by which `read_sheet` refuses, 0 where it accepts the sheet.
 pub(crate) fn sheet_refusal(bytes: &[u8], map: &[u8], coefs: &[u8]) -> u8
     ensures { λ r. ⌜ r ≡ sheetRefusal (now (bytes .entry)) (now (map .entry)) (now (coefs .entry)) ⌝ }
 {

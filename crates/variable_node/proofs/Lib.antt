@@ -1,2 +1,1 @@
-pub mod NodeLaws
-pub mod TurnLaws
+pub mod TranslateLaws

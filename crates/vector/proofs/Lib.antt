@@ -1,3 +1,7 @@
 pub mod Laws
 pub mod SliceLaws
 pub mod FrameLaws
+pub mod PartLaws
+pub mod All
+pub mod Entries
+pub mod LentParts

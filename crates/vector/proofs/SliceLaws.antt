@@ -7,9 +7,9 @@ use native.Mathlib.Nat.{le-refl, le-of-eq}
 use native.Mathlib.Numerals.{add-one}
 use native.Mathlib.Omega.{arith}
 use borrow.Author.Tests.{lt-ltb, le-ltb}
-use lib.ListN.{length, getD, take, drop, set, replicate, length-set, length-append, length-drop, take-append-drop}
+use lib.ListN.{length, getD, take, drop, set, length-set, length-append, length-drop, take-append-drop}
 use lib.Seq.{length-take-le, take-all, take-at, drop-at, take-append-le, drop-append-le, take-append-add, drop-append-add, getD-take, getD-drop, drop-drop, paste, paste-zero, paste-suc}
-use Rattle.vector.specs.Vector.{tabulate, vectorAt, joined, withVector, loaded, stored}
+use Rattle.vector.specs.Vector.{tabulate, vectorAt, joined, withVector, stored}
 use Rattle.vector.proofs.Laws.{length-tabulate, getD-tabulate, tabulate-by}
 
 -- ---- where a vector lies
@@ -144,11 +144,6 @@ module _ (xs : List ℕ) (i : ℕ) (l : 64 * (i + 1) ≤ length xs) where
   fits : i < length xs / 64
   fits = omega arith
 
-  -- `load` gives it
-  pub loaded-there : loaded xs i ≡ vectorAt xs i
-  unfolding loaded
-  loaded-there = rw (lt-ltb i (length xs / 64) fits)
-
   -- `store` writes it
   pub stored-there : (v : List ℕ) → stored xs i v ≡ withVector xs i (λ c. getD v c 0)
   unfolding stored
@@ -167,12 +162,7 @@ module _ (xs : List ℕ) (i : ℕ) (l : 64 * (i + 1) ≤ length xs) where
     pub stored-other : (j : ℕ) → (j ≡ i → ⊥) → vectorAt (stored xs i v) j ≡ vectorAt xs j
     stored-other j ne = ap (λ (ys : List ℕ). vectorAt ys j) (stored-there v) ∙ with-other xs i (λ c. getD v c 0) l j ne
 
--- where the slice has no such vector, `load` gives zeros
-pub loaded-none : (xs : List ℕ) (i : ℕ) → length xs / 64 ≤ i → loaded xs i ≡ replicate 64 0
-unfolding loaded
-loaded-none xs i l = rw (le-ltb i (length xs / 64) l)
-
--- and `store` writes nothing
+-- where the slice has no such vector, `store` writes nothing
 pub stored-none : (xs : List ℕ) (i : ℕ) (v : List ℕ) → length xs / 64 ≤ i → stored xs i v ≡ xs
 unfolding stored
 stored-none xs i v l = rw (le-ltb i (length xs / 64) l)

@@ -4,6 +4,10 @@ use mathlib.Core.List.{List}
 use lib.ListN.{length, getD}
 use Rattle.vector.specs.Vector.{vectorAt, HasZero}
 
+-- the largest penalty of all: that of 13 bits
+abbrev pub largestLlr : ℕ
+largestLlr = 8191
+
 -- the largest penalty of a precision of q bits, 2^q − 1; of 13 bits where q is more
 unfoldable pub largest : ℕ → ℕ
 largest q = 2 ^ min q 13 - 1

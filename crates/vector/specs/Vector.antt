@@ -1,10 +1,11 @@
--- Vectors of 64 numbers, one for each value of a symbol, in order of value; and the sums and the least of numbers by index.
+-- Vectors of 64 numbers, one for each value of a symbol, in order of value; and the sums and the least of numbers by
+-- index.
 use Prim.Native.Nat.{ℕ, zero, suc, _+_, _*_, _/_, _-_, _≤_, _<_, min}
 use mathlib.Core.Path.{_≡_}
 use mathlib.Core.Bool.{cond}
 use mathlib.Core.List.{List, [], _∷_, _++_}
 use lib.Dec.{ltb}
-use lib.ListN.{length, getD, take, drop, replicate}
+use lib.ListN.{length, getD, take, drop}
 
 module _ {A : Type 0} where
   -- the list f 0, f 1, .., f (n − 1)
@@ -24,10 +25,6 @@ module _ {A : Type 0} where
   -- a slice whose vector i is the 64 entries f 0, f 1, .., f 63, all else as it was
   unfoldable pub withVector : List A → ℕ → (ℕ → A) → List A
   withVector xs i f = take (64 * i) xs ++ (tabulate 64 f ++ drop (64 * i + 64) xs)
-
--- what `load` gives: vector i of a slice, or 64 zeros where the slice has no such vector
-unfoldable pub loaded : List ℕ → ℕ → List ℕ
-loaded xs i = cond (ltb i (length xs / 64)) (vectorAt xs i) (replicate 64 0)
 
 -- what `store` leaves of a slice: its vector i is v, or all is as it was where the slice has no such vector
 unfoldable pub stored : List ℕ → ℕ → List ℕ → List ℕ

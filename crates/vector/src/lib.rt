@@ -1,7 +1,10 @@
-// Vectors of 64 numbers, one for each value of a symbol: the least entry, each entry less the least, the vectors of a slice, and
-// the largest penalty of a precision.
+// Vectors of 64 numbers, one for each value of a symbol: the least entry, each entry less the least, the vectors of a
+// slice, the part of one place, and the largest penalty of a precision.
+mod part;
+
+pub use part::place_llrs;
 ghost use mathlib.Core.Path.{_≡_};
-ghost use Rattle.vector.specs.Vector.{least, lessLeast, loaded, stored};
+ghost use Rattle.vector.specs.Vector.{least, lessLeast, stored};
 ghost use Rattle.vector.specs.Frame.{largest};
 
 // The least of the 64 entries.
@@ -32,23 +35,6 @@ pub fn subtract_least(v: &[u16; 64]) -> [u16; 64]
         b += 1;
     }
     r
-}
-
-// Vector i of a slice: its 64 numbers from 64 times i on. Where the slice has no such vector, 64 zeros.
-pub fn load(s: &[u16], i: usize) -> [u16; 64]
-    ensures { λ r. ⌜ r ≡ loaded (now (s .entry)) i ⌝ }
-{
-    let mut v = [0u16; 64];
-    if s.len() / 64 <= i {
-        return v;
-    }
-    let at = 64 * i;
-    let mut c: usize = 0;
-    while c < 64 {
-        v[c] = s[at + c];
-        c += 1;
-    }
-    v
 }
 
 // Writes v as vector i of a slice. Where the slice has no such vector, nothing is written.

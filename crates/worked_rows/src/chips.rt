@@ -1,5 +1,6 @@
-// Document 01's worked rows on base, chips and gain: the answer of `spread` and the number that symbol 1 is sent as, for the base 1
-// and for the base 2^32 + 1, which is refused; and the answer of `demap` and the penalties of the one symbol weighed, for three gains.
+// Document 01's worked rows on base, chips and gain: the answer of `spread` and the number that symbol 1 is sent as,
+// for the base 1 and for the base 2^32 + 1, which is refused; and the answer of `demap` and the penalties of the one
+// symbol weighed, for three gains.
 use crate::print::print_llrs;
 use crate::print::print_number;
 use libc::STDOUT_FILENO;
@@ -13,14 +14,15 @@ fn print_sent(base: u64) {
     io::write_all(STDOUT_FILENO, b"\n");
 }
 
-// Weighs the samples +10 but for chip 0 at -10, with base 1, Qc 3 and a gain of 1 over bottom, and prints the answer and place 0.
+// Weighs the samples +10 but for chip 0 at -10, with base 1, Qc 3 and a gain of 1 over bottom, and prints the answer
+// and place 0.
 fn print_weighed(bottom: u32) {
     let mut samples = [10i8; 64];
     let mut llrs = [0u16; 64];
     samples[0] = -10;
     let answer = demapper::demap(1, &samples, 1, bottom, 3, &mut llrs);
     io::print_decimal(STDOUT_FILENO, answer as u64);
-    print_llrs(ccsk::place_llrs(&llrs, 0));
+    print_llrs(vector::place_llrs(&llrs, 0));
 }
 
 // The rows on base, chips and gain.

@@ -1,6 +1,6 @@
-// Document 01's worked frames, decoded: N = 2, place 0 frozen, and in each place's 64 penalties a 0 at one value and the same number at all
-// others. For each a line with 0 and the count of clipped entries (or the refusal alone), a line with the two symbols, and for each place a
-// line with its number and the 64 penalties reported for it.
+// Document 01's worked frames, decoded: N = 2, place 0 frozen, and in each place's 64 penalties a 0 at one value and
+// the same number at all others. For each a line with 0 and the count of clipped entries (or the refusal alone), a line
+// with the two symbols, and for each place a line with its number and the 64 penalties reported for it.
 use crate::print::print_llrs;
 use crate::print::print_number;
 use decoder::Answer;
@@ -30,7 +30,7 @@ fn print_symbols(first: u8, second: u8) {
 // Prints a place and the penalties reported for it.
 fn print_place(report: &[u16], place: usize) {
     io::print_decimal(STDOUT_FILENO, place as u64);
-    print_llrs(ccsk::place_llrs(report, place));
+    print_llrs(vector::place_llrs(report, place));
 }
 
 // Decodes a frame of two places with this coefficient and these precisions, and prints what comes out.

@@ -1,5 +1,5 @@
-// The codewords of document 01's two worked rows of the transform: N = 4, and every place a message place. Each line has the
-// answer of `encode`, 0 where it takes its input, and then the codeword.
+// The codewords of document 01's two worked rows of the transform: N = 4, and every place a message place. Each line
+// has the answer of `encode`, 0 where it accepts its input, and then the codeword.
 use crate::print::print_number;
 use libc::STDOUT_FILENO;
 

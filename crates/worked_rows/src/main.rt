@@ -1,4 +1,5 @@
-// Prints rows that document 01 works by hand, and round trips that send the frame of one of them, as the calls give them; and last its first sheet lines.
+// Prints rows that document 01 works by hand, and round trips that send the frame of one of them, as the calls give
+// them; and last its first sheet lines.
 mod chips;
 mod decoding;
 mod encoding;

@@ -1,10 +1,11 @@
-// The first sheet lines of document 01's worked rows, each before the lines of a whole sheet for n = 8: all places message places, all coefficients 1. For each a
-// line with the number of the answer, and n where the sheet is taken.
+// The first sheet lines of document 01's worked rows, each before the lines of a whole sheet for n = 8: all places
+// message places, all coefficients 1. For each a line with the number of the answer, and n where the sheet is accepted.
 use crate::print::print_number;
 use libc::STDOUT_FILENO;
 use sheet::Answer;
 
-// Byte i of a sheet for n = 8, but for its first line: the 256 lines of the map have a 0, those of the coefficients a 1.
+// Byte i of a sheet for n = 8, but for its first line: the 256 lines of the map have a 0, those of the coefficients a
+// 1.
 fn sheet_byte(i: usize) -> u8 {
     let column = i % 5;
     if column == 4 {

@@ -1,5 +1,6 @@
-// The round trip of the message 33 by the sheet of document 01's worked frame (N = 2, place 0 frozen, coefficient 2), with base 1: for each a line with 0 and
-// the count of clipped entries (or the refusal alone), and a line with the decoded message.
+// The round trip of the message 33 by the sheet of document 01's worked frame (N = 2, place 0 frozen, coefficient 2),
+// with base 1: for each a line with 0 and the count of clipped entries (or the refusal alone), and a line with the
+// decoded message.
 use crate::decoding::print_answer;
 use libc::STDOUT_FILENO;
 
@@ -9,7 +10,8 @@ fn print_message(symbol: u8) {
     io::write_all(STDOUT_FILENO, b"\n");
 }
 
-// Makes a round trip with this amplitude, this gain and these precisions, and prints the answer and the decoded message.
+// Makes a round trip with this amplitude, this gain and these precisions, and prints the answer and the decoded
+// message.
 fn print_trip(amplitude: u32, top: u32, bottom: u32, qc: u32, qm: u32) {
     let mut samples = [0i8; 128];
     let mut frame = [4711u16; 128];
@@ -39,7 +41,8 @@ fn print_trip(amplitude: u32, top: u32, bottom: u32, qc: u32, qm: u32) {
     print_message(decoded[0]);
 }
 
-// The worked frame, at two precisions; the gain 1/40, for which the noiseless statement's premise fails; an amplitude that is refused.
+// The worked frame, at two precisions; the gain 1/40, for which the noiseless statement's premise fails; an amplitude
+// that is refused.
 pub(crate) fn print_rows() {
     print_trip(10, 3, 20, 5, 13);
     print_trip(10, 3, 20, 2, 2);

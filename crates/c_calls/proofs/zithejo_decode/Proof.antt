@@ -31,24 +31,6 @@ count-refused count is = sym (ap (λ (a : Answer). firstOr (returned a .values) 
 abbrev called : tie.After-slice-known6 → tie.After-decode
 called c = c .before .before .before .before .before .before
 
-decode-requires : tie.Need-decode-requires
-decode-requires c κs = search needs
-
-enum-known-answer : tie.Need-enum-known-answer
-enum-known-answer c = search needs
-
-enum-known-answer-2 : tie.Need-enum-known-answer-2
-enum-known-answer-2 c = search needs
-
-same-length : tie.Need-same-length
-same-length c = search needs
-
-same-length-2 : tie.Need-same-length-2
-same-length-2 c = search needs
-
-same-length-3 : tie.Need-same-length-3
-same-length-3 c = search needs
-
 returns : tie.Need-returns
 returns c =
     let done = called (c .before .before .before) in
@@ -59,15 +41,6 @@ returns c =
       number-returned = number-counted is;
       count-is = count-counted _ is;
     }
-
-same-length-4 : tie.Need-same-length-4
-same-length-4 c = search needs
-
-same-length-5 : tie.Need-same-length-5
-same-length-5 c = search needs
-
-same-length-6 : tie.Need-same-length-6
-same-length-6 c = search needs
 
 returns-2 : tie.Need-returns-2
 returns-2 c =
@@ -82,16 +55,9 @@ returns-2 c =
 
 pub zithejo-decode-spec : {M : Type 1} → statement M
 zithejo-decode-spec =
-    tie.close
-    (tie.spec
-    decode-requires
-    enum-known-answer
-    enum-known-answer-2
-    same-length
-    same-length-2
-    same-length-3
+    tie.close (tie.spec
+    (λ c κs. search needs) (λ c. search needs) (λ c. search needs) (λ c. search needs) (λ c. search needs)
+    (λ c. search needs)
     returns
-    same-length-4
-    same-length-5
-    same-length-6
+    (λ c. search needs) (λ c. search needs) (λ c. search needs)
     returns-2)

@@ -32,8 +32,9 @@ cast-result c = search needs
 
 returns : tie.Need-returns Inv-loop μ-loop
 returns c =
-    let at = c .before .before .before .loop in
-    smallest-found _ (at .b) (c .before .before .before .before .least-of .ensures) (omega arith) (at .inv .1) (c .if1 .taken)
+    let head = c .before .before .before in
+    let at = head .loop in
+    smallest-found _ (at .b) (head .before .least-of .ensures) (omega arith) (at .inv .1) (c .if1 .taken)
 
 add-b : tie.Need-add-b Inv-loop μ-loop
 add-b c = search needs

@@ -6,12 +6,6 @@ use borrow.Author.Needs.{needs}
 use Rattle.frame_file.proofs.end_frame.Statement.{statement}
 use Rattle.frame_file.proofs.end_frame.Tie as tie
 
-first-tried-requires : tie.Need-first-tried-requires
-first-tried-requires c κs = search needs
-
-first-tried-requires-2 : tie.Need-first-tried-requires-2
-first-tried-requires-2 c κs = search needs
-
 returns : tie.Need-returns
 unfolding endVerdict
 returns c = c .first-tried .ensures ∙ ap (λ (t : Bool). firstTried (c .before .before .args .verdict) (cond t 12 0)) (sym (c .before .if1 .taken))
@@ -21,4 +15,4 @@ unfolding endVerdict
 returns-2 c = c .first-tried2 .ensures ∙ ap (λ (t : Bool). firstTried (c .before .before .args .verdict) (cond t 12 0)) (sym (c .before .if1 .left))
 
 pub end-frame-spec : {M : Type 1} → statement M
-end-frame-spec = tie.close (tie.spec first-tried-requires first-tried-requires-2 returns returns-2)
+end-frame-spec = tie.close (tie.spec (λ c κs. search needs) (λ c κs. search needs) returns returns-2)

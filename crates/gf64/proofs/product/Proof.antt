@@ -7,12 +7,6 @@ use Rattle.gf64.proofs.ProductLaws.{product-formula}
 use Rattle.gf64.proofs.product.Statement.{statement}
 use Rattle.gf64.proofs.product.Tie as tie
 
-unreduced-requires : tie.Need-unreduced-requires
-unreduced-requires c κs = search needs
-
-reduced-requires : tie.Need-reduced-requires
-reduced-requires c κs = search needs
-
 returns : tie.Need-returns
 unfolding lowSix
 returns c =
@@ -23,4 +17,5 @@ returns c =
     }
 
 pub product-spec : {M : Type 1} → statement M
-product-spec = tie.close (tie.spec unreduced-requires reduced-requires returns)
+product-spec =
+    tie.close (tie.spec (λ c κs. search needs) (λ c κs. search needs) returns)

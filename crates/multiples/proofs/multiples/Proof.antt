@@ -5,42 +5,24 @@ use Rattle.multiples.proofs.MultipleLaws.{all-multiples}
 use Rattle.multiples.proofs.multiples.Statement.{statement}
 use Rattle.multiples.proofs.multiples.Tie as tie
 
-times-a-requires : tie.Need-times-a-requires
-times-a-requires c κs = search needs
-
-times-a-requires-2 : tie.Need-times-a-requires-2
-times-a-requires-2 c κs = search needs
-
-times-a-requires-3 : tie.Need-times-a-requires-3
-times-a-requires-3 c κs = search needs
-
-times-a-requires-4 : tie.Need-times-a-requires-4
-times-a-requires-4 c κs = search needs
-
-times-a-requires-5 : tie.Need-times-a-requires-5
-times-a-requires-5 c κs = search needs
-
-combinations-requires : tie.Need-combinations-requires
-combinations-requires c κs = search needs
-
 returns : tie.Need-returns
 returns c =
+    let c5 = c .before in
+    let c4 = c5 .before in
+    let c3 = c4 .before in
+    let c2 = c3 .before in
+    let c1 = c2 .before in
     c .combinations .ensures
-    ∙ all-multiples (c .before .before .before .before .before .before .args .h) _ _ _ _ _
-    (c .before .before .before .before .before .times-a .ensures .0)
-    (c .before .before .before .before .times-a2 .ensures .0)
-    (c .before .before .before .times-a3 .ensures .0)
-    (c .before .before .times-a4 .ensures .0)
-    (c .before .times-a5 .ensures .0)
+    ∙ all-multiples (c1 .before .args .h) _ _ _ _ _
+    (c1 .times-a .ensures .0)
+    (c2 .times-a2 .ensures .0)
+    (c3 .times-a3 .ensures .0)
+    (c4 .times-a4 .ensures .0)
+    (c5 .times-a5 .ensures .0)
 
 pub multiples-spec : {M : Type 1} → statement M
 multiples-spec =
     tie.close
-    (tie.spec
-    times-a-requires
-    times-a-requires-2
-    times-a-requires-3
-    times-a-requires-4
-    times-a-requires-5
-    combinations-requires
+    (tie.spec (λ c κs. search needs) (λ c κs. search needs) (λ c κs. search needs) (λ c κs. search needs) (λ c κs. search needs)
+    (λ c κs. search needs)
     returns)

@@ -7,9 +7,6 @@ use Rattle.multiples.specs.Multiples.{part}
 use Rattle.multiples.proofs.part.Statement.{statement}
 use Rattle.multiples.proofs.part.Tie as tie
 
-div-if1 : tie.Need-div-if1
-div-if1 c = search needs
-
 returns : tie.Need-returns
 unfolding part
 returns c = sym (ap (λ (t : Bool). cond t (c .before .args .q) 0) (eq-eqb _ _ (c .if1 .taken)))
@@ -19,4 +16,5 @@ unfolding part
 returns-2 c = sym (ap (λ (t : Bool). cond t (c .before .args .q) 0) (ne-eqb _ _ (c .if1 .left)))
 
 pub part-spec : {M : Type 1} → statement M
-part-spec = tie.close (tie.spec div-if1 returns returns-2)
+part-spec =
+    tie.close (tie.spec (λ c. search needs) returns returns-2)

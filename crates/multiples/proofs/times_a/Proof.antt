@@ -10,15 +10,6 @@ use Rattle.gf64.specs.Field.{_⊕_, timesA}
 use Rattle.multiples.proofs.times_a.Statement.{statement}
 use Rattle.multiples.proofs.times_a.Tie as tie
 
-mul-result : tie.Need-mul-result
-mul-result c = search needs
-
-mul-result-2 : tie.Need-mul-result-2
-mul-result-2 c = search needs
-
-sub-result : tie.Need-sub-result
-sub-result c = search needs
-
 returns : tie.Need-returns
 unfolding timesA _⊕_
 returns c =
@@ -34,4 +25,5 @@ returns-2 c =
     )
 
 pub times-a-spec : {M : Type 1} → statement M
-times-a-spec = tie.close (tie.spec mul-result mul-result-2 sub-result returns returns-2)
+times-a-spec =
+    tie.close (tie.spec (λ c. search needs) (λ c. search needs) (λ c. search needs) returns returns-2)

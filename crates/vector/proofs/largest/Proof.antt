@@ -10,12 +10,6 @@ use Rattle.vector.proofs.largest.Tie as tie
 returns : tie.Need-returns
 returns c = sym (largest-from _ (omega arith))
 
-cast-result : tie.Need-cast-result
-cast-result c = search needs
-
-shl-result : tie.Need-shl-result
-shl-result c = search needs
-
 sub-result : tie.Need-sub-result
 sub-result c = let p = pow-pos (c .before .args .q) in let l = pow-mono {i = c .before .args .q} {j = 13} (omega arith) in omega arith
 
@@ -27,4 +21,5 @@ returns-2 c =
     omega arith
 
 pub largest-spec : {M : Type 1} → statement M
-largest-spec = tie.close (tie.spec returns cast-result shl-result sub-result returns-2)
+largest-spec =
+    tie.close (tie.spec returns (λ c. search needs) (λ c. search needs) sub-result returns-2)

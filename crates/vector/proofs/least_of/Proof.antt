@@ -16,29 +16,19 @@ Inv-loop v m₀ b₀ m b = (b ≤ 64) × (m ≡ leastTo (b - 1) (λ i. getD v i 
 abbrev μ-loop : tie.MeasureT-loop
 μ-loop v m₀ b₀ m b = 64 - b
 
-element-copy-out-m : tie.Need-element-copy-out-m Inv-loop μ-loop
-element-copy-out-m c = search needs
+-- the entry, from the loop's head
+abbrev entry : tie.At-loop Inv-loop μ-loop → tie.Start Inv-loop μ-loop
+entry c = c .before .before
 
 loop-holds : tie.Need-loop-holds Inv-loop μ-loop
 unfolding leastTo
 loop-holds c = (omega arith, refl)
 
-mul-x : tie.Need-mul-x Inv-loop μ-loop
-mul-x c = search needs
-
-element-copy-out-x : tie.Need-element-copy-out-x Inv-loop μ-loop
-element-copy-out-x c = search needs
-
-add-b : tie.Need-add-b Inv-loop μ-loop
-add-b c = search needs
-
-loop-less : tie.Need-loop-less Inv-loop μ-loop
-loop-less c = search needs
-
 loop-again : tie.Need-loop-again Inv-loop μ-loop
 loop-again c =
+    let v = entry (c .before .before .before) .args .v .now in
     let at = c .before .before .before .loop in
-    let m = least-next (at .b) (at .m) (λ i. getD (c .before .before .before .before .before .args .v .now) i 0) (at .inv .1) in
+    let m = least-next (at .b) (at .m) (λ i. getD v i 0) (at .inv .1) in
     ⊎-elim
     (λ w. (omega arith, w .1 ∙ m .0 (w .0 .taken)))
     (λ w. (omega arith, w .1 ∙ m .1 (w .0 .left)))
@@ -49,19 +39,13 @@ unfolding least
 returns c =
     let at = c .before .loop in
     let e : at .b - 1 ≡ 63 = omega arith in
-    at .inv .1 ∙ ap (λ (x : ℕ). leastTo x (λ i. getD (c .before .before .before .args .v .now) i 0)) e
+    at .inv .1 ∙ ap (λ (x : ℕ). leastTo x (λ i. getD (entry (c .before) .args .v .now) i 0)) e
 
 pub least-of-spec : {M : Type 1} → statement M
 least-of-spec =
     tie.close
-    (tie.spec
-    Inv-loop
-    μ-loop
-    element-copy-out-m
+    (tie.spec Inv-loop μ-loop
+    (λ c. search needs)
     loop-holds
-    mul-x
-    element-copy-out-x
-    add-b
-    loop-less
-    loop-again
-    returns)
+    (λ c. search needs) (λ c. search needs) (λ c. search needs) (λ c. search needs)
+    loop-again returns)

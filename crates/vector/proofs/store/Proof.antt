@@ -17,32 +17,8 @@ abbrev μ-loop : tie.MeasureT-loop
 returns : tie.Need-returns Inv-loop μ-loop
 returns c = sym (stored-none (c .before .args .s .now) (c .before .args .i) (c .before .args .v .now) (c .if1 .taken))
 
-mul-at : tie.Need-mul-at Inv-loop μ-loop
-mul-at c = search needs
-
 loop-holds : tie.Need-loop-holds Inv-loop μ-loop
 loop-holds c = store-none (c .before .args .s .now) (c .before .args .i) (λ b. getD (c .before .args .v .now) b 0)
-
-mul-s : tie.Need-mul-s Inv-loop μ-loop
-mul-s c = search needs
-
-element-copy-out-s : tie.Need-element-copy-out-s Inv-loop μ-loop
-element-copy-out-s c = search needs
-
-add-s : tie.Need-add-s Inv-loop μ-loop
-add-s c = search needs
-
-mul-s-2 : tie.Need-mul-s-2 Inv-loop μ-loop
-mul-s-2 c = search needs
-
-slice-write-s : tie.Need-slice-write-s Inv-loop μ-loop
-slice-write-s c = omega arith
-
-add-c : tie.Need-add-c Inv-loop μ-loop
-add-c c = search needs
-
-loop-less : tie.Need-loop-less Inv-loop μ-loop
-loop-less c = search needs
 
 loop-again : tie.Need-loop-again Inv-loop μ-loop
 loop-again c = store-more (omega arith) (c .before .before .loop .inv) (c .before .loop-test .taken)
@@ -59,19 +35,9 @@ returns-2 c =
 pub store-spec : {M : Type 1} → statement M
 store-spec =
     tie.close
-    (tie.spec
-    Inv-loop
-    μ-loop
-    returns
-    mul-at
+    (tie.spec Inv-loop μ-loop returns
+    (λ c. search needs)
     loop-holds
-    mul-s
-    element-copy-out-s
-    add-s
-    mul-s-2
-    slice-write-s
-    add-c
-    loop-less
-    loop-again
-    same-length
-    returns-2)
+    (λ c. search needs) (λ c. search needs) (λ c. search needs) (λ c. search needs) (λ c. omega arith) (λ c. search needs)
+    (λ c. search needs)
+    loop-again same-length returns-2)

@@ -15,42 +15,28 @@ Inv-loop v taken r₀ b₀ r b = Filled 64 (λ i. getD v i 0 - least v) r b
 abbrev μ-loop : tie.MeasureT-loop
 μ-loop v taken r₀ b₀ r b = 64 - b
 
-least-of-requires : tie.Need-least-of-requires Inv-loop μ-loop
-least-of-requires c κs = search needs
+-- the loop's head, from the place where an entry is read, and the entry of the call, from the head
+abbrev at-loop : tie.After-r Inv-loop μ-loop → tie.At-loop Inv-loop μ-loop
+at-loop c = c .before .before
+
+abbrev entry : tie.At-loop Inv-loop μ-loop → tie.Start Inv-loop μ-loop
+entry c = c .before .before
 
 loop-holds : tie.Need-loop-holds Inv-loop μ-loop
 loop-holds c = fill-none refl
 
-mul-r : tie.Need-mul-r Inv-loop μ-loop
-mul-r c = search needs
-
-element-copy-out-r : tie.Need-element-copy-out-r Inv-loop μ-loop
-element-copy-out-r c = search needs
-
 sub-r : tie.Need-sub-r Inv-loop μ-loop
 sub-r c =
-    let v = c .before .before .before .before .args .v .now in
-    let b = c .before .before .loop .b in
-    let e = c .before .before .before .least-of .ensures in
+    let v = entry (at-loop c) .args .v .now in
+    let b = at-loop c .loop .b in
+    let e = at-loop c .before .least-of .ensures in
     omega (arith, least-le v b (omega arith))
-
-mul-r-2 : tie.Need-mul-r-2 Inv-loop μ-loop
-mul-r-2 c = search needs
-
-array-write-r : tie.Need-array-write-r Inv-loop μ-loop
-array-write-r c = search needs
-
-add-b : tie.Need-add-b Inv-loop μ-loop
-add-b c = search needs
-
-loop-less : tie.Need-loop-less Inv-loop μ-loop
-loop-less c = search needs
 
 loop-again : tie.Need-loop-again Inv-loop μ-loop
 loop-again c =
-    let v = c .before .before .before .before .args .v .now in
-    let at = c .before .before .loop in
-    fill-more (at .inv) (omega arith) (ap (λ (x : ℕ). getD v (at .b) 0 - x) (c .before .before .before .least-of .ensures))
+    let v = entry (at-loop c) .args .v .now in
+    let at = at-loop c .loop in
+    fill-more (at .inv) (omega arith) (ap (λ (x : ℕ). getD v (at .b) 0 - x) (at-loop c .before .least-of .ensures))
 
 returns : tie.Need-returns Inv-loop μ-loop
 unfolding lessLeast
@@ -59,17 +45,10 @@ returns c = fill-all (c .before .loop .inv) (c .loop-test .left)
 pub subtract-least-spec : {M : Type 1} → statement M
 subtract-least-spec =
     tie.close
-    (tie.spec
-    Inv-loop
-    μ-loop
-    least-of-requires
+    (tie.spec Inv-loop μ-loop
+    (λ c κs. search needs)
     loop-holds
-    mul-r
-    element-copy-out-r
+    (λ c. search needs) (λ c. search needs)
     sub-r
-    mul-r-2
-    array-write-r
-    add-b
-    loop-less
-    loop-again
-    returns)
+    (λ c. search needs) (λ c. search needs) (λ c. search needs) (λ c. search needs)
+    loop-again returns)

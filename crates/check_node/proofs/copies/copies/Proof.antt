@@ -56,75 +56,6 @@ earlier1 c = earlier2 c .before .before
 abbrev entry : tie.After-swapped7 → tie.Start
 entry c = earlier1 c .before .before
 
-swapped-requires : tie.Need-swapped-requires
-swapped-requires c κs = search needs
-
-swapped-requires-2 : tie.Need-swapped-requires-2
-swapped-requires-2 c κs = search needs
-
-swapped-requires-3 : tie.Need-swapped-requires-3
-swapped-requires-3 c κs = search needs
-
-swapped-requires-4 : tie.Need-swapped-requires-4
-swapped-requires-4 c κs = search needs
-
-swapped-requires-5 : tie.Need-swapped-requires-5
-swapped-requires-5 c κs = search needs
-
-swapped-requires-6 : tie.Need-swapped-requires-6
-swapped-requires-6 c κs = search needs
-
-swapped-requires-7 : tie.Need-swapped-requires-7
-swapped-requires-7 c κs = search needs
-
-slice-aggregate-store : tie.Need-slice-aggregate-store
-slice-aggregate-store c = search needs
-
-store-requires : tie.Need-store-requires
-store-requires c κs = search needs
-
-slice-aggregate-store-2 : tie.Need-slice-aggregate-store-2
-slice-aggregate-store-2 c = search needs
-
-store-requires-2 : tie.Need-store-requires-2
-store-requires-2 c κs = search needs
-
-slice-aggregate-store-3 : tie.Need-slice-aggregate-store-3
-slice-aggregate-store-3 c = search needs
-
-store-requires-3 : tie.Need-store-requires-3
-store-requires-3 c κs = search needs
-
-slice-aggregate-store-4 : tie.Need-slice-aggregate-store-4
-slice-aggregate-store-4 c = search needs
-
-store-requires-4 : tie.Need-store-requires-4
-store-requires-4 c κs = search needs
-
-slice-aggregate-store-5 : tie.Need-slice-aggregate-store-5
-slice-aggregate-store-5 c = search needs
-
-store-requires-5 : tie.Need-store-requires-5
-store-requires-5 c κs = search needs
-
-slice-aggregate-store-6 : tie.Need-slice-aggregate-store-6
-slice-aggregate-store-6 c = search needs
-
-store-requires-6 : tie.Need-store-requires-6
-store-requires-6 c κs = search needs
-
-slice-aggregate-store-7 : tie.Need-slice-aggregate-store-7
-slice-aggregate-store-7 c = search needs
-
-store-requires-7 : tie.Need-store-requires-7
-store-requires-7 c κs = search needs
-
-slice-aggregate-store-8 : tie.Need-slice-aggregate-store-8
-slice-aggregate-store-8 c = search needs
-
-store-requires-8 : tie.Need-store-requires-8
-store-requires-8 c κs = search needs
-
 returns : tie.Need-returns
 unfolding _⊕_
 returns c =
@@ -156,28 +87,9 @@ returns c =
 pub copies-spec : {M : Type 1} → statement M
 copies-spec =
     tie.close
-    (tie.spec
-    swapped-requires
-    swapped-requires-2
-    swapped-requires-3
-    swapped-requires-4
-    swapped-requires-5
-    swapped-requires-6
-    swapped-requires-7
-    slice-aggregate-store
-    store-requires
-    slice-aggregate-store-2
-    store-requires-2
-    slice-aggregate-store-3
-    store-requires-3
-    slice-aggregate-store-4
-    store-requires-4
-    slice-aggregate-store-5
-    store-requires-5
-    slice-aggregate-store-6
-    store-requires-6
-    slice-aggregate-store-7
-    store-requires-7
-    slice-aggregate-store-8
-    store-requires-8
+    (tie.spec (λ c κs. search needs) (λ c κs. search needs) (λ c κs. search needs) (λ c κs. search needs) (λ c κs. search needs)
+    (λ c κs. search needs) (λ c κs. search needs) (λ c. search needs) (λ c κs. search needs) (λ c. search needs)
+    (λ c κs. search needs) (λ c. search needs) (λ c κs. search needs) (λ c. search needs) (λ c κs. search needs)
+    (λ c. search needs) (λ c κs. search needs) (λ c. search needs) (λ c κs. search needs) (λ c. search needs)
+    (λ c κs. search needs) (λ c. search needs) (λ c κs. search needs)
     returns)

@@ -10,37 +10,16 @@ use Rattle.check_node.proofs.differences.wide_differences.Statement.{st
 use Rattle.check_node.proofs.differences.wide_differences.Tie as tie
 
 abbrev Inv-loop : tie.InvT-loop
-Inv-loop x d r₀ c₀ r c = Filled 64 (λ k. getD d k 0) r c
+Inv-loop ordered d r₀ c₀ r c = Filled 64 (λ k. getD d k 0) r c
 
 abbrev μ-loop : tie.MeasureT-loop
-μ-loop x d r₀ c₀ r c = 64 - c
+μ-loop ordered d r₀ c₀ r c = 64 - c
 
 differences-requires : tie.Need-differences-requires Inv-loop μ-loop
 differences-requires c κs = c .pre
 
 loop-holds : tie.Need-loop-holds Inv-loop μ-loop
 loop-holds c = fill-none refl
-
-mul-r : tie.Need-mul-r Inv-loop μ-loop
-mul-r c = search needs
-
-array-read-r : tie.Need-array-read-r Inv-loop μ-loop
-array-read-r c = search needs
-
-cast-r : tie.Need-cast-r Inv-loop μ-loop
-cast-r c = search needs
-
-mul-r-2 : tie.Need-mul-r-2 Inv-loop μ-loop
-mul-r-2 c = search needs
-
-array-write-r : tie.Need-array-write-r Inv-loop μ-loop
-array-write-r c = search needs
-
-add-c : tie.Need-add-c Inv-loop μ-loop
-add-c c = search needs
-
-loop-less : tie.Need-loop-less Inv-loop μ-loop
-loop-less c = search needs
 
 loop-again : tie.Need-loop-again Inv-loop μ-loop
 loop-again c = fill-more (c .before .loop .inv) (omega arith) refl
@@ -53,17 +32,7 @@ returns c =
 pub wide-differences-spec : {M : Type 1} → statement M
 wide-differences-spec =
     tie.close
-    (tie.spec
-    Inv-loop
-    μ-loop
-    differences-requires
-    loop-holds
-    mul-r
-    array-read-r
-    cast-r
-    mul-r-2
-    array-write-r
-    add-c
-    loop-less
-    loop-again
-    returns)
+    (tie.spec Inv-loop μ-loop differences-requires loop-holds
+    (λ c. search needs) (λ c. search needs) (λ c. search needs) (λ c. search needs) (λ c. search needs) (λ c. search needs)
+    (λ c. search needs)
+    loop-again returns)

@@ -1,8 +1,8 @@
--- `all_steps` meets its contract: the values of the halves before this one have taken their steps.
+-- `all_steps` meets its contract: the values of the halves before this one have made their steps.
 use Prim.Native.Nat.{_-_, _*_, _≤_}
 use native.Mathlib.Omega.{arith}
 use borrow.Author.Needs.{needs}
-use Rattle.reorder.specs.Parts.{Mapped}
+use Rattle.reorder.specs.Order.{Mapped}
 use Rattle.check_node.specs.Steps.{stepsAt}
 use Rattle.reorder.proofs.LoopLaws.{map-none, map-join, map-all}
 use Rattle.check_node.proofs.steps.all_steps.Statement.{statement}
@@ -23,12 +23,6 @@ half-steps-requires c κs =
     let start = head .before in
     (start .pre .0, start .pre .1, omega arith, head .loop .inv .0 .long)
 
-add-half : tie.Need-add-half Inv-loop μ-loop
-add-half c = search needs
-
-loop-less : tie.Need-loop-less Inv-loop μ-loop
-loop-less c = search needs
-
 loop-again : tie.Need-loop-again Inv-loop μ-loop
 loop-again c =
     let at = c .before .before .loop in
@@ -39,5 +33,4 @@ returns c = map-all (c .before .loop .inv .0) (omega arith)
 
 pub all-steps-spec : {M : Type 1} → statement M
 all-steps-spec =
-    tie.close
-    (tie.spec Inv-loop μ-loop loop-holds half-steps-requires add-half loop-less loop-again returns)
+    tie.close (tie.spec Inv-loop μ-loop loop-holds half-steps-requires (λ c. search needs) (λ c. search needs) loop-again returns)

@@ -1,10 +1,10 @@
--- `column_steps` meets its contract: the values have taken the first 4 j steps of the column.
+-- `column_steps` meets its contract: the values have made the first 4 j steps of the column.
 use mathlib.Core.Path.{_≡_, refl, ap, _∙_, subst}
 use Prim.Native.Nat.{ℕ, suc, _+_, _-_, _*_, _≤_}
 use native.Mathlib.Omega.{arith}
 use borrow.Author.Needs.{needs}
 use lib.ListN.{getD}
-use Rattle.reorder.specs.Parts.{Mapped}
+use Rattle.reorder.specs.Order.{Mapped}
 use Rattle.check_node.specs.Steps.{stepsAt, columnTo}
 use Rattle.check_node.proofs.steps.column_steps.Statement.{statement}
 use Rattle.check_node.proofs.steps.column_steps.Tie as tie
@@ -19,22 +19,10 @@ loop-holds : tie.Need-loop-holds Inv-loop μ-loop
 unfolding columnTo
 loop-holds c = (record { long = c .pre .2; done = λ b p q. refl; earlier = λ b p. absurd (omega arith); later = λ b p. refl }, omega arith)
 
-mul-all-steps : tie.Need-mul-all-steps Inv-loop μ-loop
-mul-all-steps c = search needs
-
-add-all-steps : tie.Need-add-all-steps Inv-loop μ-loop
-add-all-steps c = search needs
-
 all-steps-requires : tie.Need-all-steps-requires Inv-loop μ-loop
 all-steps-requires c κs =
     let head = c .before in
     (head .before .pre .0, omega arith, head .loop .inv .0 .long)
-
-add-j : tie.Need-add-j Inv-loop μ-loop
-add-j c = search needs
-
-loop-less : tie.Need-loop-less Inv-loop μ-loop
-loop-less c = search needs
 
 loop-again : tie.Need-loop-again Inv-loop μ-loop
 unfolding columnTo
@@ -64,14 +52,8 @@ returns c =
 pub column-steps-spec : {M : Type 1} → statement M
 column-steps-spec =
     tie.close
-    (tie.spec
-    Inv-loop
-    μ-loop
-    loop-holds
-    mul-all-steps
-    add-all-steps
+    (tie.spec Inv-loop μ-loop loop-holds
+    (λ c. search needs) (λ c. search needs)
     all-steps-requires
-    add-j
-    loop-less
-    loop-again
-    returns)
+    (λ c. search needs) (λ c. search needs)
+    loop-again returns)

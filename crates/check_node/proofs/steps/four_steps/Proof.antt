@@ -6,18 +6,6 @@ use Rattle.check_node.specs.Steps.{step, fourSteps}
 use Rattle.check_node.proofs.steps.four_steps.Statement.{statement}
 use Rattle.check_node.proofs.steps.four_steps.Tie as tie
 
-step-requires : tie.Need-step-requires
-step-requires c κs = search needs
-
-step-requires-2 : tie.Need-step-requires-2
-step-requires-2 c κs = search needs
-
-step-requires-3 : tie.Need-step-requires-3
-step-requires-3 c κs = search needs
-
-step-requires-4 : tie.Need-step-requires-4
-step-requires-4 c κs = search needs
-
 returns : tie.Need-returns
 unfolding fourSteps
 returns c =
@@ -30,4 +18,4 @@ returns c =
 
 pub four-steps-spec : {M : Type 1} → statement M
 four-steps-spec =
-    tie.close (tie.spec step-requires step-requires-2 step-requires-3 step-requires-4 returns)
+    tie.close (tie.spec (λ c κs. search needs) (λ c κs. search needs) (λ c κs. search needs) (λ c κs. search needs) returns)

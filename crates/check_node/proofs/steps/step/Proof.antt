@@ -6,15 +6,6 @@ use Rattle.check_node.proofs.StepLaws.{step-is}
 use Rattle.check_node.proofs.steps.step.Statement.{statement}
 use Rattle.check_node.proofs.steps.step.Tie as tie
 
-wrapping-add-u16-requires : tie.Need-wrapping-add-u16-requires
-wrapping-add-u16-requires c κs = search needs
-
-wrapping-add-u16-requires-2 : tie.Need-wrapping-add-u16-requires-2
-wrapping-add-u16-requires-2 c κs = search needs
-
-wrapping-add-u16-requires-3 : tie.Need-wrapping-add-u16-requires-3
-wrapping-add-u16-requires-3 c κs = search needs
-
 returns : tie.Need-returns
 returns c =
     let a = c .before .before .before .before .args in
@@ -29,10 +20,4 @@ returns-2 c =
 
 pub step-spec : {M : Type 1} → statement M
 step-spec =
-    tie.close
-    (tie.spec
-    wrapping-add-u16-requires
-    wrapping-add-u16-requires-2
-    wrapping-add-u16-requires-3
-    returns
-    returns-2)
+    tie.close (tie.spec (λ c κs. search needs) (λ c κs. search needs) (λ c κs. search needs) returns returns-2)

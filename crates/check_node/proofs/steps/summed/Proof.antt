@@ -18,27 +18,6 @@ abbrev μ-loop : tie.MeasureT-loop
 loop-holds : tie.Need-loop-holds Inv-loop μ-loop
 loop-holds c = fill-none refl
 
-mul-wrapping-add-u16 : tie.Need-mul-wrapping-add-u16 Inv-loop μ-loop
-mul-wrapping-add-u16 c = search needs
-
-element-copy-out-wrapping-add-u16 : tie.Need-element-copy-out-wrapping-add-u16 Inv-loop μ-loop
-element-copy-out-wrapping-add-u16 c = search needs
-
-wrapping-add-u16-requires : tie.Need-wrapping-add-u16-requires Inv-loop μ-loop
-wrapping-add-u16-requires c κs = search needs
-
-mul-r : tie.Need-mul-r Inv-loop μ-loop
-mul-r c = search needs
-
-array-write-r : tie.Need-array-write-r Inv-loop μ-loop
-array-write-r c = search needs
-
-add-b : tie.Need-add-b Inv-loop μ-loop
-add-b c = search needs
-
-loop-less : tie.Need-loop-less Inv-loop μ-loop
-loop-less c = search needs
-
 loop-again : tie.Need-loop-again Inv-loop μ-loop
 loop-again c = fill-more (c .before .before .before .loop .inv) (omega arith) (c .wrapping-add-u16 .ensures)
 
@@ -49,16 +28,7 @@ returns c = fill-all (c .before .loop .inv) (c .loop-test .left)
 pub summed-spec : {M : Type 1} → statement M
 summed-spec =
     tie.close
-    (tie.spec
-    Inv-loop
-    μ-loop
-    loop-holds
-    mul-wrapping-add-u16
-    element-copy-out-wrapping-add-u16
-    wrapping-add-u16-requires
-    mul-r
-    array-write-r
-    add-b
-    loop-less
-    loop-again
-    returns)
+    (tie.spec Inv-loop μ-loop loop-holds
+    (λ c. search needs) (λ c. search needs) (λ c κs. search needs) (λ c. search needs) (λ c. search needs) (λ c. search needs)
+    (λ c. search needs)
+    loop-again returns)

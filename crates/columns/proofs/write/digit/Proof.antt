@@ -5,15 +5,9 @@ use Rattle.columns.specs.Columns.{digit}
 use Rattle.columns.proofs.write.digit.Statement.{statement}
 use Rattle.columns.proofs.write.digit.Tie as tie
 
-cast-result : tie.Need-cast-result
-cast-result c = search needs
-
-add-result : tie.Need-add-result
-add-result c = search needs
-
 returns : tie.Need-returns
 unfolding digit
 returns c = refl
 
 pub digit-spec : {M : Type 1} → statement M
-digit-spec = tie.close (tie.spec cast-result add-result returns)
+digit-spec = tie.close (tie.spec (λ c. search needs) (λ c. search needs) returns)

@@ -16,21 +16,16 @@ Inv-loop v out₀ k₀ left₀ out k left = (k ≤ length out) × (length out �
 abbrev μ-loop : tie.MeasureT-loop
 μ-loop v out₀ k₀ left₀ out k left = k
 
+-- the entry, from the place where the last digit is known
+abbrev entry : tie.After-digit Inv-loop μ-loop → tie.Start Inv-loop μ-loop
+entry c = c .before .before .before
+
 returns : tie.Need-returns Inv-loop μ-loop
 returns c = no-column (c .before .before .args .v) (c .before .before .args .out .now) (c .if1 .taken)
 
-sub-k : tie.Need-sub-k Inv-loop μ-loop
-sub-k c = search needs
-
-digit-requires : tie.Need-digit-requires Inv-loop μ-loop
-digit-requires c κs = search needs
-
-slice-write-out : tie.Need-slice-write-out Inv-loop μ-loop
-slice-write-out c = search needs
-
 loop-holds : tie.Need-loop-holds Inv-loop μ-loop
 loop-holds c =
-    let a = c .before .before .before .args in
+    let a = entry c .args in
     let j = length (a .out .now) - 1 in
     let some = c .before .if1 .left in
     let long = length-set (a .out .now) j (c .digit .result) in (
@@ -39,18 +34,6 @@ loop-holds c =
       ap (λ (x : ℕ). before j (a .v / 10) ++ drop j (set (a .out .now) j x)) (c .digit .ensures)
           ∙ last-column (a .v) (a .out .now) (omega arith) ∙ ap (λ (k : ℕ). field k (a .v)) (sym long),
     )
-
-sub-k-2 : tie.Need-sub-k-2 Inv-loop μ-loop
-sub-k-2 c = search needs
-
-column-requires : tie.Need-column-requires Inv-loop μ-loop
-column-requires c κs = search needs
-
-slice-write-out-2 : tie.Need-slice-write-out-2 Inv-loop μ-loop
-slice-write-out-2 c = search needs
-
-loop-less : tie.Need-loop-less Inv-loop μ-loop
-loop-less c = search needs
 
 loop-again : tie.Need-loop-again Inv-loop μ-loop
 loop-again c =
@@ -66,12 +49,12 @@ loop-again c =
 
 same-length : tie.Need-same-length Inv-loop μ-loop
 same-length c =
-    let a = c .before .before .before .before .before .args in
+    let a = entry (c .before .before) .args in
     c .before .loop .inv .1 ∙ length-set (a .out .now) (length (a .out .now) - 1) (c .before .before .digit .result)
 
 returns-2 : tie.Need-returns-2 Inv-loop μ-loop
 returns-2 c =
-    let a = c .before .before .before .before .before .args in
+    let a = entry (c .before .before) .args in
     let at = c .before .loop in
     let over = c .loop-test .left in
     nothing-left (at .k) (at .left) (at .out) (omega arith)
@@ -79,19 +62,11 @@ returns-2 c =
 
 pub write-number-spec : {M : Type 1} → statement M
 write-number-spec =
-    tie.close
-    (tie.spec
-    Inv-loop
-    μ-loop
+    tie.close (tie.spec Inv-loop μ-loop
     returns
-    sub-k
-    digit-requires
-    slice-write-out
+    (λ c. search needs) (λ c κs. search needs) (λ c. search needs)
     loop-holds
-    sub-k-2
-    column-requires
-    slice-write-out-2
-    loop-less
+    (λ c. search needs) (λ c κs. search needs) (λ c. search needs) (λ c. search needs)
     loop-again
     same-length
     returns-2)

@@ -1,6 +1,7 @@
--- `decode_block` meets its contract: the halves are decoded one after the other, one layer less each, from the nodes of the kernels that join
--- them (BlockLaws).
+-- `decode_block` meets its contract: the halves are decoded one after the other, one layer less each, from the nodes of
+-- the kernels that join them (BlockLaws).
 use mathlib.Core.Path.{_≡_, sym, _∙_}
+use mathlib.Core.List.{List, _++_}
 use Prim.Native.Nat.{ℕ, _+_, _-_, _*_, _/_, _≤_, _<_}
 use native.Mathlib.Omega.{arith}
 use borrow.Author.Needs.{needs}
@@ -8,8 +9,7 @@ use borrow.Fn.Kinds.{In}
 use borrow.Fn.PlainCycle.{Measures, is, falls, and}
 use lib.ListN.{length, drop}
 use lib.Seq.{length-take-le}
-use mathlib.Core.List.{List, _++_}
-use Rattle.polar.proofs.BlockLaws as polar
+use Rattle.vector.proofs.LentParts.{put, put-drop, put-long, lent-long, lent-whole}
 use Rattle.decoder.specs.Parts.{BlockGiven}
 use Rattle.decoder.proofs.BlockLaws as laws
 use Rattle.decoder.proofs.block.decode_block.Reads as block-reads
@@ -24,7 +24,7 @@ use Rattle.decoder.proofs.block.+decode_block.Tie.{close}
 
 -- the number of layers falls
 abbrev μ-layers : Measures 7 block-kinds.ps ℕ
-μ-layers κs a = a .0
+μ-layers κs a = a .0 .layers
 
 abbrev given : ℕ → In 7 block-kinds.ps
 given t = and 7 block-kinds.ps (is 7 block-kinds.ps μ-layers t) block-reads.Pre
@@ -47,375 +47,296 @@ calls t = (
   join-reads.Learnt,
 )
 
--- from the place after each call, or after the test for a layer, to the one before it
-abbrev entry : (t : ℕ) → lts.Else1 (calls t) (given t) block-reads.Post → lts.Start (calls t) (given t) block-reads.Post
-entry t c = c .before .before .before .before .before .before .before .before
-
-abbrev to-else : (t : ℕ) → lts.After-check-nodes (calls t) (given t) block-reads.Post → lts.Else1 (calls t) (given t) block-reads.Post
-to-else t c = c .before .before .before
-
-abbrev to-checked : (t : ℕ) → lts.After-decode-block (calls t) (given t) block-reads.Post → lts.After-check-nodes (calls t) (given t) block-reads.Post
-to-checked t c = c .before .before .before .before .before .before .before .before .before .before
-
-abbrev to-first : (t : ℕ) → lts.After-variable-nodes (calls t) (given t) block-reads.Post → lts.After-decode-block (calls t) (given t) block-reads.Post
-to-first t c = c .before .before .before .before .before .before .before .before .before .before .before .before .before
-
-abbrev to-variable : (t : ℕ) → lts.After-decode-block2 (calls t) (given t) block-reads.Post → lts.After-variable-nodes (calls t) (given t) block-reads.Post
-to-variable t c = c .before .before .before .before .before .before .before .before
-
-abbrev to-second : (t : ℕ) → lts.After-join-halves (calls t) (given t) block-reads.Post → lts.After-decode-block2 (calls t) (given t) block-reads.Post
-to-second t c = c .before .before .before .before .before .before .before .before .before .before
-
 -- the number of layers falls at each call
 fewer : (layers t : ℕ) → (layers ≡ 0 → ⊥) → layers ≡ t → layers - 1 < t
 fewer layers t ne e = omega arith
 
--- there is a layer
-layer : (t : ℕ) (c : lts.Else1 (calls t) (given t) block-reads.Post) → (entry t c) .args .layers ≡ 0 → ⊥
-layer t c = c .if1 .left
-
--- the sizes
-sizes : (t : ℕ) (c : lts.Else1 (calls t) (given t) block-reads.Post) → laws.Sizes (layer t c) (entry t c .pre .1)
-sizes t c = laws.at-sizes (layer t c) (entry t c .pre .1)
+module _ (t : ℕ) where
+  -- ---- the states: where the call begins, and after the test for a layer
+  abbrev Entry : Type 0
+  Entry = lts.Start (calls t) (given t) block-reads.Post
 
--- the number of entries of the report's first half, and what the check nodes left in its second half
-abbrev cut : (t : ℕ) → lts.After-check-nodes (calls t) (given t) block-reads.Post → ℕ
-cut t c = 64 * (length (entry t (to-else t c) .args .map .now) / 2)
+  abbrev Layered : Type 0
+  Layered = lts.Else1 (calls t) (given t) block-reads.Post
 
-abbrev left : (t : ℕ) → lts.After-check-nodes (calls t) (given t) block-reads.Post → List ℕ
-left t c = c .check-nodes .last .1 .1 .1 .1 .1 .1 .0
+  -- where there is none, and after its one place is decoded
+  abbrev Single : Type 0
+  Single = lts.Then1 (calls t) (given t) block-reads.Post
 
--- the report with it
-abbrev noted : (t : ℕ) → lts.After-check-nodes (calls t) (given t) block-reads.Post → List ℕ
-noted t c = polar.put (cut t c) (entry t (to-else t c) .args .report .now) (left t c)
+  abbrev SingleDecoded : Type 0
+  SingleDecoded = lts.After-decode-place (calls t) (given t) block-reads.Post
 
--- it has the length that it had
-noted-long : (t : ℕ) (c : lts.After-check-nodes (calls t) (given t) block-reads.Post) → length (noted t c) ≡ length (entry t (to-else t c) .args .report .now)
-noted-long t c = polar.put-long (cut t c) (entry t (to-else t c) .args .report .now) (left t c) (sizes t (to-else t c) .in-report) (c .check-nodes .kept .1 .1 .1 .1 .1 .1 .0)
+  -- after the check nodes, the first half, the variable nodes, the second half, and the words joined
+  abbrev Checked : Type 0
+  Checked = lts.After-check-nodes (calls t) (given t) block-reads.Post
 
--- so the block is given what it was
-again : (t : ℕ) (c : lts.After-check-nodes (calls t) (given t) block-reads.Post)
-    → BlockGiven (entry t (to-else t c) .args .layers) (entry t (to-else t c) .args .start) (entry t (to-else t c) .args .cap) (entry t (to-else t c) .args .at) (entry t (to-else t c) .args .coefs .now) (entry t (to-else t c) .args .map .now)
-    (entry t (to-else t c) .args .frame .now) (entry t (to-else t c) .args .work .now) (entry t (to-else t c) .args .word .now) (entry t (to-else t c) .args .symbols .now) (noted t c)
-again t c = laws.at-report (layer t (to-else t c)) (entry t (to-else t c) .pre .1) (noted-long t c)
+  abbrev FirstDecoded : Type 0
+  FirstDecoded = lts.After-decode-block (calls t) (given t) block-reads.Post
 
--- and its report has room for that of a half
-noted-room : (t : ℕ) (c : lts.After-check-nodes (calls t) (given t) block-reads.Post) → cut t c ≤ length (noted t c)
-noted-room t c = laws.at-sizes (layer t (to-else t c)) (again t c) .in-report
+  abbrev Variable : Type 0
+  Variable = lts.After-variable-nodes (calls t) (given t) block-reads.Post
 
--- what is known after the first half
-first-half : (t : ℕ) (c : lts.After-decode-block (calls t) (given t) block-reads.Post)
-    → laws.FirstHalf (layer t (to-else t (to-checked t c))) (again t (to-checked t c)) (to-checked t c .check-nodes .last .1 .1 .1 .1 .1 .0) (left t (to-checked t c))
-    (c .decode-block .last .1 .1 .1 .1 .1 .1 .1 .0) (c .decode-block .last .1 .1 .1 .1 .1 .1 .1 .1 .0) (c .decode-block .last .1 .1 .1 .1 .1 .1 .1 .1 .1 .0) (c .decode-block .last .1 .1 .1 .1 .1 .1 .1 .1 .1 .1 .0) (c .decode-block .result)
-first-half t c = record {
-  checked-long = to-checked t c .check-nodes .kept .1 .1 .1 .1 .1 .0;
-  checked = to-checked t c .check-nodes .ensures;
-  in-report = polar.put-drop (cut t (to-checked t c)) (entry t (to-else t (to-checked t c)) .args .report .now) (left t (to-checked t c)) (sizes t (to-else t (to-checked t c)) .in-report);
-  work-long = c .decode-block .kept .1 .1 .1 .1 .1 .1 .1 .0;
-  word-long = c .decode-block .kept .1 .1 .1 .1 .1 .1 .1 .1 .0;
-  symbols-long = c .decode-block .kept .1 .1 .1 .1 .1 .1 .1 .1 .1 .0;
-  report-long = c .decode-block .kept .1 .1 .1 .1 .1 .1 .1 .1 .1 .1 .0;
-  decoded = c .decode-block .ensures;
-}
+  abbrev SecondDecoded : Type 0
+  SecondDecoded = lts.After-decode-block2 (calls t) (given t) block-reads.Post
 
--- the work buffer keeps its length at the variable nodes
-variable-long : (t : ℕ) (c : lts.After-variable-nodes (calls t) (given t) block-reads.Post) → length (c .variable-nodes .last .1 .1 .1 .1 .1 .0) ≡ length (to-first t c .decode-block .last .1 .1 .1 .1 .1 .1 .1 .0)
-variable-long t c = c .variable-nodes .kept .1 .1 .1 .1 .1 .0
+  abbrev Joined : Type 0
+  Joined = lts.After-join-halves (calls t) (given t) block-reads.Post
 
--- what is known after the second half
-second-half : (t : ℕ) (c : lts.After-decode-block2 (calls t) (given t) block-reads.Post)
-    → laws.SecondHalf (layer t (to-else t (to-checked t (to-first t (to-variable t c))))) (again t (to-checked t (to-first t (to-variable t c))))
-    (first-half t (to-first t (to-variable t c))) (variable-long t (to-variable t c)) (to-variable t c .variable-nodes .ensures)
-    (c .decode-block2 .last .1 .1 .1 .1 .1 .1 .1 .0) (c .decode-block2 .last .1 .1 .1 .1 .1 .1 .1 .1 .0) (c .decode-block2 .last .1 .1 .1 .1 .1 .1 .1 .1 .1 .0) (c .decode-block2 .last .1 .1 .1 .1 .1 .1 .1 .1 .1 .1 .0) (c .decode-block2 .result)
-second-half t c = record { word-long = c .decode-block2 .kept .1 .1 .1 .1 .1 .1 .1 .1 .0; decoded = c .decode-block2 .ensures }
+  -- from each to the one before it
+  abbrev single-entry : Single → Entry
+  single-entry c = c .before .before .before .before .before .before .before .before .before
 
-decode-place-requires : (t : ℕ) → lts.Need-decode-place-requires (calls t) (given t) block-reads.Post
-decode-place-requires t c κs = laws.at-place (c .before .before .before .before .if1 .taken) (c .before .before .before .before .before .before .before .before .before .before .before .before .pre .1)
+  abbrev to-single : SingleDecoded → Single
+  to-single c = c .before .before .before .before .before
+
+  abbrev entry : Layered → Entry
+  entry c = c .before .before .before .before .before .before .before .before .before
 
-same-length : (t : ℕ) → lts.Need-same-length (calls t) (given t) block-reads.Post
-same-length t c = search needs
-
-same-length-2 : (t : ℕ) → lts.Need-same-length-2 (calls t) (given t) block-reads.Post
-same-length-2 t c = search needs
-
-same-length-3 : (t : ℕ) → lts.Need-same-length-3 (calls t) (given t) block-reads.Post
-same-length-3 t c = search needs
-
-same-length-4 : (t : ℕ) → lts.Need-same-length-4 (calls t) (given t) block-reads.Post
-same-length-4 t c = search needs
-
-returns : (t : ℕ) → lts.Need-returns (calls t) (given t) block-reads.Post
-returns t c = laws.at-leaf (c .before .before .before .before .before .before .before .before .before .before .before .if1 .taken) (c .before .before .before .before .before .before .before .before .before .before .before .before .before .before .before .before .before .before .before .pre .1) (c .before .before .before .before .before .before .decode-place .ensures)
-
-add-first-start : (t : ℕ) → lts.Need-add-first-start (calls t) (given t) block-reads.Post
-add-first-start t c = let z = sizes t c in omega arith
-
-add-second-start : (t : ℕ) → lts.Need-add-second-start (calls t) (given t) block-reads.Post
-add-second-start t c = let z = sizes t c in omega arith
-
-add-next : (t : ℕ) → lts.Need-add-next (calls t) (given t) block-reads.Post
-add-next t c = search needs
-
-add-next-2 : (t : ℕ) → lts.Need-add-next-2 (calls t) (given t) block-reads.Post
-add-next-2 t c = search needs
-
-mul-cut : (t : ℕ) → lts.Need-mul-cut (calls t) (given t) block-reads.Post
-mul-cut t c = search needs
-
-mul-check-nodes : (t : ℕ) → lts.Need-mul-check-nodes (calls t) (given t) block-reads.Post
-mul-check-nodes t c = search needs
-
-sub-check-nodes : (t : ℕ) → lts.Need-sub-check-nodes (calls t) (given t) block-reads.Post
-sub-check-nodes t c = search needs
-
-part-check-nodes-start : (t : ℕ) → lts.Need-part-check-nodes-start (calls t) (given t) block-reads.Post
-part-check-nodes-start t c = search needs
-
-part-check-nodes-end : (t : ℕ) → lts.Need-part-check-nodes-end (calls t) (given t) block-reads.Post
-part-check-nodes-end t c = search needs
-
-check-nodes-requires : (t : ℕ) → lts.Need-check-nodes-requires (calls t) (given t) block-reads.Post
-check-nodes-requires t c κs = let e = c .before .before in (laws.at-kernels (layer t e) (entry t e .pre .1), laws.at-room (layer t e) (entry t e .pre .1))
-
-sub-decode-block : (t : ℕ) → lts.Need-sub-decode-block (calls t) (given t) block-reads.Post
-sub-decode-block t c = search needs
-
-slice-aggregate-decode-block : (t : ℕ) → lts.Need-slice-aggregate-decode-block (calls t) (given t) block-reads.Post
-slice-aggregate-decode-block t c = sym (length-take-le (length (entry t (to-else t (c .before .before .before .before .before)) .args .map .now) / 2) (entry t (to-else t (c .before .before .before .before .before)) .args .map .now) (sizes t (to-else t (c .before .before .before .before .before)) .in-map))
-
-slice-relend-prefix-decode-block : (t : ℕ) → lts.Need-slice-relend-prefix-decode-block (calls t) (given t) block-reads.Post
-slice-relend-prefix-decode-block t c = search needs
-
-slice-aggregate-decode-block-2 : (t : ℕ) → lts.Need-slice-aggregate-decode-block-2 (calls t) (given t) block-reads.Post
-slice-aggregate-decode-block-2 t c = sym (length-take-le (length (entry t (to-else t (c .before .before .before .before .before .before .before)) .args .map .now) / 2) (entry t (to-else t (c .before .before .before .before .before .before .before)) .args .word .now) (sizes t (to-else t (c .before .before .before .before .before .before .before)) .in-word))
-
-slice-relend-prefix-decode-block-2 : (t : ℕ) → lts.Need-slice-relend-prefix-decode-block-2 (calls t) (given t) block-reads.Post
-slice-relend-prefix-decode-block-2 t c = search needs
-
-slice-aggregate-decode-block-3 : (t : ℕ) → lts.Need-slice-aggregate-decode-block-3 (calls t) (given t) block-reads.Post
-slice-aggregate-decode-block-3 t c = sym (length-take-le (length (entry t (to-else t (c .before .before .before .before .before .before .before .before)) .args .map .now) / 2) (entry t (to-else t (c .before .before .before .before .before .before .before .before)) .args .symbols .now) (sizes t (to-else t (c .before .before .before .before .before .before .before .before)) .in-symbols))
-
-slice-relend-prefix-decode-block-3 : (t : ℕ) → lts.Need-slice-relend-prefix-decode-block-3 (calls t) (given t) block-reads.Post
-slice-relend-prefix-decode-block-3 t c = search needs
-
-slice-aggregate-decode-block-4 : (t : ℕ) → lts.Need-slice-aggregate-decode-block-4 (calls t) (given t) block-reads.Post
-slice-aggregate-decode-block-4 t c = sym (length-take-le (cut t (c .before .before .before .before .before .before .before .before .before)) (noted t (c .before .before .before .before .before .before .before .before .before)) (noted-room t (c .before .before .before .before .before .before .before .before .before)))
-
-decode-block-requires : (t : ℕ) → lts.Need-decode-block-requires (calls t) (given t) block-reads.Post
-decode-block-requires t c κs =
-    let d = c .before .before .before .before .before .before .before .before .before in
-    let e = to-else t d in
-    (fewer (entry t e .args .layers) t (layer t e) (entry t e .pre .0), laws.at-first (layer t e) (again t d) (d .check-nodes .kept .1 .1 .1 .1 .1 .0) (d .check-nodes .ensures))
-
--- the report is as long as it was, so the part from its second half on is in it
-ordered-part : (t : ℕ) (d : lts.After-decode-block (calls t) (given t) block-reads.Post)
-    → cut t (to-checked t d) ≤ length (d .decode-block .last .1 .1 .1 .1 .1 .1 .1 .1 .1 .1 .0 ++ drop (cut t (to-checked t d)) (noted t (to-checked t d)))
-ordered-part t d =
-    let l = noted-room t (to-checked t d) in
-    let q = polar.lent-long (cut t (to-checked t d)) (noted t (to-checked t d)) (d .decode-block .last .1 .1 .1 .1 .1 .1 .1 .1 .1 .1 .0) (d .decode-block .kept .1 .1 .1 .1 .1 .1 .1 .1 .1 .1 .0) l in
-    omega arith
-
-mul-variable-nodes : (t : ℕ) → lts.Need-mul-variable-nodes (calls t) (given t) block-reads.Post
-mul-variable-nodes t c = let z = sizes t (to-else t (to-checked t (c .before .before .before .before .before .before .before .before .before .before))) in omega arith
-
-sub-variable-nodes : (t : ℕ) → lts.Need-sub-variable-nodes (calls t) (given t) block-reads.Post
-sub-variable-nodes t c = ordered-part t (c .before .before .before .before .before .before .before .before .before .before)
-
-part-variable-nodes-start : (t : ℕ) → lts.Need-part-variable-nodes-start (calls t) (given t) block-reads.Post
-part-variable-nodes-start t c = ordered-part t (c .before .before .before .before .before .before .before .before .before .before .before)
-
-part-variable-nodes-end : (t : ℕ) → lts.Need-part-variable-nodes-end (calls t) (given t) block-reads.Post
-part-variable-nodes-end t c = search needs
-
-variable-nodes-requires : (t : ℕ) → lts.Need-variable-nodes-requires (calls t) (given t) block-reads.Post
-variable-nodes-requires t c κs =
-    let d = c .before .before .before .before .before .before .before .before .before .before .before .before in
-    let e = to-else t (to-checked t d) in
-    let g = again t (to-checked t d) in
-    (laws.at-variable (layer t e) g (first-half t d), laws.at-symbols (layer t e) g (first-half t d), laws.at-ordered (layer t e) g (first-half t d))
-
-sub-decode-block-2 : (t : ℕ) → lts.Need-sub-decode-block-2 (calls t) (given t) block-reads.Post
-sub-decode-block-2 t c = search needs
-
-sub-decode-block-3 : (t : ℕ) → lts.Need-sub-decode-block-3 (calls t) (given t) block-reads.Post
-sub-decode-block-3 t c = search needs
-
-part-decode-block-start : (t : ℕ) → lts.Need-part-decode-block-start (calls t) (given t) block-reads.Post
-part-decode-block-start t c = search needs
-
-part-decode-block-end : (t : ℕ) → lts.Need-part-decode-block-end (calls t) (given t) block-reads.Post
-part-decode-block-end t c = search needs
-
-sub-decode-block-4 : (t : ℕ) → lts.Need-sub-decode-block-4 (calls t) (given t) block-reads.Post
-sub-decode-block-4 t c =
-    let d = c .before .before .before .before .before .before .before .before .before .before .before .before .before .before .before .before .before in
-    let e = to-else t (to-checked t d) in
-    let l = sizes t e .in-word in
-    let q = polar.lent-long (length (entry t e .args .map .now) / 2) (entry t e .args .word .now) (d .decode-block .last .1 .1 .1 .1 .1 .1 .1 .1 .0) (d .decode-block .kept .1 .1 .1 .1 .1 .1 .1 .1 .0) l in
-    omega arith
-
-part-decode-block-start-2 : (t : ℕ) → lts.Need-part-decode-block-start-2 (calls t) (given t) block-reads.Post
-part-decode-block-start-2 t c =
-    sub-decode-block-4 t c
-
-part-decode-block-end-2 : (t : ℕ) → lts.Need-part-decode-block-end-2 (calls t) (given t) block-reads.Post
-part-decode-block-end-2 t c = search needs
-
-sub-decode-block-5 : (t : ℕ) → lts.Need-sub-decode-block-5 (calls t) (given t) block-reads.Post
-sub-decode-block-5 t c =
-    let d = c .before .before .before .before .before .before .before .before .before .before .before .before .before .before .before .before .before .before in
-    let e = to-else t (to-checked t d) in
-    let l = sizes t e .in-symbols in
-    let q = polar.lent-long (length (entry t e .args .map .now) / 2) (entry t e .args .symbols .now) (d .decode-block .last .1 .1 .1 .1 .1 .1 .1 .1 .1 .0) (d .decode-block .kept .1 .1 .1 .1 .1 .1 .1 .1 .1 .0) l in
-    omega arith
-
-part-decode-block-start-3 : (t : ℕ) → lts.Need-part-decode-block-start-3 (calls t) (given t) block-reads.Post
-part-decode-block-start-3 t c =
-    sub-decode-block-5 t c
-
-part-decode-block-end-3 : (t : ℕ) → lts.Need-part-decode-block-end-3 (calls t) (given t) block-reads.Post
-part-decode-block-end-3 t c = search needs
-
-mul-decode-block : (t : ℕ) → lts.Need-mul-decode-block (calls t) (given t) block-reads.Post
-mul-decode-block t c =
-    let z = sizes t (to-else t (to-checked t (c .before .before .before .before .before .before .before .before .before .before .before .before .before .before .before .before .before .before .before))) in omega arith
-
-sub-decode-block-6 : (t : ℕ) → lts.Need-sub-decode-block-6 (calls t) (given t) block-reads.Post
-sub-decode-block-6 t c = ordered-part t (c .before .before .before .before .before .before .before .before .before .before .before .before .before .before .before .before .before .before .before)
-
-part-decode-block-start-4 : (t : ℕ) → lts.Need-part-decode-block-start-4 (calls t) (given t) block-reads.Post
-part-decode-block-start-4 t c =
-    sub-decode-block-6 t c
-
-part-decode-block-end-4 : (t : ℕ) → lts.Need-part-decode-block-end-4 (calls t) (given t) block-reads.Post
-part-decode-block-end-4 t c = search needs
-
-decode-block-requires-2 : (t : ℕ) → lts.Need-decode-block-requires-2 (calls t) (given t) block-reads.Post
-decode-block-requires-2 t c κs =
-    let v = c .before .before .before .before .before .before .before in
-    let d = to-first t v in
-    let e = to-else t (to-checked t d) in
-    (fewer (entry t e .args .layers) t (layer t e) (entry t e .pre .0), laws.at-second (layer t e) (again t (to-checked t d)) (first-half t d) (variable-long t v) (v .variable-nodes .ensures))
-
-join-halves-requires : (t : ℕ) → lts.Need-join-halves-requires (calls t) (given t) block-reads.Post
-join-halves-requires t c κs =
-    search needs
-
-add-result : (t : ℕ) → lts.Need-add-result (calls t) (given t) block-reads.Post
-add-result t c =
-    let s = to-second t (c .before .before) in
-    let v = to-variable t s in
-    let d = to-first t v in
-    let e = to-else t (to-checked t d) in
-    let n = laws.at-count (layer t e) (again t (to-checked t d)) (first-half t d) (variable-long t v) (v .variable-nodes .ensures) (second-half t s) in
-    omega arith
-
-add-result-2 : (t : ℕ) → lts.Need-add-result-2 (calls t) (given t) block-reads.Post
-add-result-2 t c =
-    let s = to-second t (c .before .before) in
-    let v = to-variable t s in
-    let d = to-first t v in
-    let e = to-else t (to-checked t d) in
-    let n = laws.at-count (layer t e) (again t (to-checked t d)) (first-half t d) (variable-long t v) (v .variable-nodes .ensures) (second-half t s) in
-    omega arith
-
-same-length-5 : (t : ℕ) → lts.Need-same-length-5 (calls t) (given t) block-reads.Post
-same-length-5 t c =
-    let s = to-second t (c .before .before) in
-    let v = to-variable t s in
-    let d = to-first t v in
-    let e = to-else t (to-checked t d) in
-    s .decode-block2 .kept .1 .1 .1 .1 .1 .1 .1 .0 ∙ variable-long t v ∙ first-half t d .work-long ∙ first-half t d .checked-long
-
-same-length-6 : (t : ℕ) → lts.Need-same-length-6 (calls t) (given t) block-reads.Post
-same-length-6 t c =
-    let s = to-second t (c .before .before) in
-    let v = to-variable t s in
-    let d = to-first t v in
-    let e = to-else t (to-checked t d) in
-    c .before .before .join-halves .kept .1 .1 .1 .0 ∙ polar.lent-whole (length (entry t e .args .map .now) / 2) (entry t e .args .word .now) (d .decode-block .last .1 .1 .1 .1 .1 .1 .1 .1 .0) (d .decode-block .kept .1 .1 .1 .1 .1 .1 .1 .1 .0) (sizes t e .in-word) (s .decode-block2 .last .1 .1 .1 .1 .1 .1 .1 .1 .0) (s .decode-block2 .kept .1 .1 .1 .1 .1 .1 .1 .1 .0)
-
-same-length-7 : (t : ℕ) → lts.Need-same-length-7 (calls t) (given t) block-reads.Post
-same-length-7 t c =
-    let s = to-second t (c .before .before) in
-    let v = to-variable t s in
-    let d = to-first t v in
-    let e = to-else t (to-checked t d) in
-    polar.lent-whole (length (entry t e .args .map .now) / 2) (entry t e .args .symbols .now) (d .decode-block .last .1 .1 .1 .1 .1 .1 .1 .1 .1 .0) (d .decode-block .kept .1 .1 .1 .1 .1 .1 .1 .1 .1 .0) (sizes t e .in-symbols) (s .decode-block2 .last .1 .1 .1 .1 .1 .1 .1 .1 .1 .0) (s .decode-block2 .kept .1 .1 .1 .1 .1 .1 .1 .1 .1 .0)
-
-same-length-8 : (t : ℕ) → lts.Need-same-length-8 (calls t) (given t) block-reads.Post
-same-length-8 t c =
-    let s = to-second t (c .before .before) in
-    let v = to-variable t s in
-    let d = to-first t v in
-    let e = to-else t (to-checked t d) in
-    polar.lent-whole (cut t (to-checked t d)) (noted t (to-checked t d)) (d .decode-block .last .1 .1 .1 .1 .1 .1 .1 .1 .1 .1 .0) (d .decode-block .kept .1 .1 .1 .1 .1 .1 .1 .1 .1 .1 .0) (noted-room t (to-checked t d)) (s .decode-block2 .last .1 .1 .1 .1 .1 .1 .1 .1 .1 .1 .0) (s .decode-block2 .kept .1 .1 .1 .1 .1 .1 .1 .1 .1 .1 .0)
-    ∙ noted-long t (to-checked t d)
-
-returns-2 : (t : ℕ) → lts.Need-returns-2 (calls t) (given t) block-reads.Post
-returns-2 t c =
-    let s = to-second t (c .before .before) in
-    let v = to-variable t s in
-    let d = to-first t v in
-    let e = to-else t (to-checked t d) in
-    let j = c .before .before .join-halves in
-    let g = laws.at-joins (layer t e) (again t (to-checked t d)) (first-half t d) (variable-long t v) (v .variable-nodes .ensures) (second-half t s) in
-    laws.at-done (layer t e) (again t (to-checked t d)) (first-half t d) (variable-long t v) (v .variable-nodes .ensures) (second-half t s) (j .kept .1 .1 .1 .0) (j .ensures .joins g)
+  abbrev to-layered : Checked → Layered
+  to-layered c = c .before .before .before .before .before .before .before .before
+
+  abbrev to-checked : FirstDecoded → Checked
+  to-checked c = c .before .before .before .before .before .before .before .before .before .before
+
+  abbrev to-first : Variable → FirstDecoded
+  to-first c = c .before .before .before .before .before .before .before .before .before .before .before .before .before
+
+  abbrev to-variable : SecondDecoded → Variable
+  to-variable c = c .before .before .before .before .before .before .before .before
+
+  abbrev to-second : Joined → SecondDecoded
+  to-second c = c .before .before .before .before .before .before .before .before .before .before
+
+  -- from the place before the check nodes to the test, and from the first place where a part is lent to the first half,
+  -- to the variable nodes and to the second half to the state before them
+  abbrev unchecked : lts.After-struct-known6 (calls t) (given t) block-reads.Post → Layered
+  unchecked c = c .before .before .before .before .before
+
+  abbrev lent-first : lts.After-decode-block-arg (calls t) (given t) block-reads.Post → Checked
+  lent-first c = c .before .before .before .before .before
+
+  abbrev lent-variable : lts.After-variable-nodes-arg2 (calls t) (given t) block-reads.Post → FirstDecoded
+  lent-variable c = c .before .before .before .before .before .before .before .before .before .before
+
+  abbrev lent-second : lts.After-decode-block-arg7 (calls t) (given t) block-reads.Post → Variable
+  lent-second c = c .before .before .before .before
+
+  -- and from the first half to the test
+  abbrev layered : FirstDecoded → Layered
+  layered c = to-layered (to-checked c)
+
+  -- ---- what is known at the test for a layer: there is one, what the block is given, and the sizes
+  layer : (c : Layered) → entry c .args .block .layers ≡ 0 → ⊥
+  layer c = c .if1 .left
+
+  sizes : (c : Layered) → laws.Sizes (layer c) (entry c .pre .1)
+  sizes c = laws.at-sizes (layer c) (entry c .pre .1)
+
+  -- the places of a half, and the number of entries of its report
+  abbrev half : Layered → ℕ
+  half c = length (entry c .args .map .now) / 2
+
+  abbrev cut : Layered → ℕ
+  cut c = 64 * half c
+
+  -- ---- what the check nodes left: the work buffer, φ's vectors in the second half of the report, and the report with them
+  abbrev checked-work : Checked → List ℕ
+  checked-work c = c .check-nodes .last .1 .1 .1 .1 .0
+
+  abbrev checked-room : Checked → List ℕ
+  checked-room c = c .check-nodes .last .1 .1 .1 .1 .1 .0
+
+  abbrev noted : Checked → List ℕ
+  noted c = put (cut (to-layered c)) (entry (to-layered c) .args .report .now) (checked-room c)
+
+  checked-long : (c : Checked) → length (checked-work c) ≡ length (entry (to-layered c) .args .work .now)
+  checked-long c = c .check-nodes .kept .1 .1 .1 .1 .0
+
+  -- the report has the length that it had
+  noted-long : (c : Checked) → length (noted c) ≡ length (entry (to-layered c) .args .report .now)
+  noted-long c =
+      put-long (cut (to-layered c)) (entry (to-layered c) .args .report .now) (checked-room c) (sizes (to-layered c) .in-report) (c .check-nodes .kept .1 .1 .1 .1 .1 .0)
+
+  -- so the block is given what it was
+  again : (c : Checked) → let a = entry (to-layered c) .args in
+      BlockGiven (a .block) (a .coefs .now) (a .map .now) (a .frame .now) (a .work .now) (a .word .now) (a .symbols .now) (noted c)
+  again c = laws.at-report (layer (to-layered c)) (entry (to-layered c) .pre .1) (noted-long c)
+
+  -- and its report has room for that of a half
+  noted-room : (c : Checked) → cut (to-layered c) ≤ length (noted c)
+  noted-room c = laws.at-sizes (layer (to-layered c)) (again c) .in-report
+
+  -- ---- what the first half left
+  abbrev first-left : FirstDecoded → laws.Left
+  first-left c = record {
+    work = c .decode-block .last .1 .1 .1 .1 .0;
+    word = c .decode-block .last .1 .1 .1 .1 .1 .0;
+    symbols = c .decode-block .last .1 .1 .1 .1 .1 .1 .0;
+    report = c .decode-block .last .1 .1 .1 .1 .1 .1 .1 .0;
+    count = c .decode-block .result;
+  }
+
+  first-half : (c : FirstDecoded)
+      → laws.FirstHalf (layer (layered c)) (again (to-checked c)) (checked-work (to-checked c)) (checked-room (to-checked c)) (first-left c)
+  first-half c =
+      let k = to-checked c in
+      record {
+        checked-long = checked-long k;
+        checked = k .check-nodes .ensures;
+        in-report = put-drop (cut (layered c)) (entry (layered c) .args .report .now) (checked-room k) (sizes (layered c) .in-report);
+        work-long = c .decode-block .kept .1 .1 .1 .1 .0;
+        word-long = c .decode-block .kept .1 .1 .1 .1 .1 .0;
+        symbols-long = c .decode-block .kept .1 .1 .1 .1 .1 .1 .0;
+        report-long = c .decode-block .kept .1 .1 .1 .1 .1 .1 .1 .0;
+        decoded = c .decode-block .ensures;
+      }
+
+  -- a part that was lent from a place on lies in the slice, when its first part has come back
+  word-part : (c : FirstDecoded) → half (layered c) ≤ length (first-left c .word ++ drop (half (layered c)) (entry (layered c) .args .word .now))
+  word-part c =
+      let l = sizes (layered c) .in-word in
+      let q = lent-long (half (layered c)) (entry (layered c) .args .word .now) (first-left c .word) (first-half c .word-long) l in
+      omega arith
+
+  symbols-part : (c : FirstDecoded) → half (layered c) ≤ length (first-left c .symbols ++ drop (half (layered c)) (entry (layered c) .args .symbols .now))
+  symbols-part c =
+      let l = sizes (layered c) .in-symbols in
+      let q = lent-long (half (layered c)) (entry (layered c) .args .symbols .now) (first-left c .symbols) (first-half c .symbols-long) l in
+      omega arith
+
+  report-part : (c : FirstDecoded) → cut (layered c) ≤ length (first-left c .report ++ drop (cut (layered c)) (noted (to-checked c)))
+  report-part c =
+      let l = noted-room (to-checked c) in
+      let q = lent-long (cut (layered c)) (noted (to-checked c)) (first-left c .report) (first-half c .report-long) l in
+      omega arith
+
+  -- ---- what the variable nodes left of the work buffer: its length
+  variable-long : (c : Variable) → length (c .variable-nodes .last .1 .1 .1 .1 .0) ≡ length (first-left (to-first c) .work)
+  variable-long c = c .variable-nodes .kept .1 .1 .1 .1 .0
+
+  -- ---- what the second half left
+  abbrev second-left : SecondDecoded → laws.Left
+  second-left c = record {
+    work = c .decode-block2 .last .1 .1 .1 .1 .0;
+    word = c .decode-block2 .last .1 .1 .1 .1 .1 .0;
+    symbols = c .decode-block2 .last .1 .1 .1 .1 .1 .1 .0;
+    report = c .decode-block2 .last .1 .1 .1 .1 .1 .1 .1 .0;
+    count = c .decode-block2 .result;
+  }
+
+  second-half : (c : SecondDecoded) → let v = to-variable c in let d = to-first v in
+      laws.SecondHalf (layer (layered d)) (again (to-checked d)) (first-half d) (variable-long v) (v .variable-nodes .ensures) (second-left c)
+  second-half c = record { word-long = c .decode-block2 .kept .1 .1 .1 .1 .1 .0; decoded = c .decode-block2 .ensures }
+
+  -- the counts add up within 32 bits
+  few-counted : (c : SecondDecoded) → first-left (to-first (to-variable c)) .count + to-variable c .variable-nodes .result + second-left c .count ≤ 300000
+  few-counted c =
+      let v = to-variable c in
+      let d = to-first v in
+      laws.at-count (layer (layered d)) (again (to-checked d)) (first-half d) (variable-long v) (v .variable-nodes .ensures) (second-half c)
+
+  -- ---- the promise, when the words are joined
+  done : (c : Joined) → let s = to-second c in let v = to-variable s in let d = to-first v in
+      laws.JoinedBy (layer (layered d)) (again (to-checked d)) (first-half d) (variable-long v) (v .variable-nodes .ensures) (second-half s) (c .join-halves .last .1 .1 .1 .0)
+  done c =
+      let s = to-second c in
+      let v = to-variable s in
+      let d = to-first v in
+      let g = laws.at-joins (layer (layered d)) (again (to-checked d)) (first-half d) (variable-long v) (v .variable-nodes .ensures) (second-half s) in
+      laws.at-done (layer (layered d)) (again (to-checked d)) (first-half d) (variable-long v) (v .variable-nodes .ensures) (second-half s)
+      (c .join-halves .kept .1 .1 .1 .0) (c .join-halves .ensures .joins g)
 
 pub +decode-block-spec : {M : Type 1} → statement M
 +decode-block-spec =
     close μ-layers λ t.
     lts.spec (calls t) (given t) block-reads.Post
-    (decode-place-requires t)
-    (same-length t)
-    (same-length-2 t)
-    (same-length-3 t)
-    (same-length-4 t)
-    (returns t)
-    (add-first-start t)
-    (add-second-start t)
-    (add-next t)
-    (add-next-2 t)
-    (mul-cut t)
-    (mul-check-nodes t)
-    (sub-check-nodes t)
-    (part-check-nodes-start t)
-    (part-check-nodes-end t)
-    (check-nodes-requires t)
-    (sub-decode-block t)
-    (slice-aggregate-decode-block t)
-    (slice-relend-prefix-decode-block t)
-    (slice-aggregate-decode-block-2 t)
-    (slice-relend-prefix-decode-block-2 t)
-    (slice-aggregate-decode-block-3 t)
-    (slice-relend-prefix-decode-block-3 t)
-    (slice-aggregate-decode-block-4 t)
-    (decode-block-requires t)
-    (mul-variable-nodes t)
-    (sub-variable-nodes t)
-    (part-variable-nodes-start t)
-    (part-variable-nodes-end t)
-    (variable-nodes-requires t)
-    (sub-decode-block-2 t)
-    (sub-decode-block-3 t)
-    (part-decode-block-start t)
-    (part-decode-block-end t)
-    (sub-decode-block-4 t)
-    (part-decode-block-start-2 t)
-    (part-decode-block-end-2 t)
-    (sub-decode-block-5 t)
-    (part-decode-block-start-3 t)
-    (part-decode-block-end-3 t)
-    (mul-decode-block t)
-    (sub-decode-block-6 t)
-    (part-decode-block-start-4 t)
-    (part-decode-block-end-4 t)
-    (decode-block-requires-2 t)
-    (join-halves-requires t)
-    (add-result t)
-    (add-result-2 t)
-    (same-length-5 t)
-    (same-length-6 t)
-    (same-length-7 t)
-    (same-length-8 t)
-    (returns-2 t)
+    -- one place
+    (λ c κs. let e = c .before .before .before .before in laws.at-place (e .if1 .taken) (single-entry t e .pre .1))
+    (λ c. search needs)
+    (λ c. search needs)
+    (λ c. search needs)
+    (λ c. search needs)
+    (λ c.
+    let p = c .before .before .before .before .before .before in
+    let e = to-single t p in
+    laws.at-leaf (e .if1 .taken) (single-entry t e .pre .1) (p .decode-place .ensures))
+    -- the numbers of the halves
+    (λ c. let z = sizes t (c .before .before) in omega arith)
+    (λ c. search needs)
+    (λ c. search needs)
+    (λ c. search needs)
+    (λ c. search needs)
+    (λ c. search needs)
+    (λ c. let z = sizes t (unchecked t c) in omega arith)
+    -- the check nodes
+    (λ c. let z = sizes t (unchecked t (c .before)) in omega arith)
+    (λ c. let z = sizes t (unchecked t (c .before)) in search needs)
+    (λ c. let z = sizes t (unchecked t (c .before)) in search needs)
+    (λ c. search needs)
+    (λ c κs. let e = unchecked t (c .before .before) in (laws.at-kernels (layer t e) (entry t e .pre .1), laws.at-room (layer t e) (entry t e .pre .1)))
+    -- the first half
+    (λ c. let e = to-layered t (lent-first t c) in sym (length-take-le (half t e) (entry t e .args .map .now) (sizes t e .in-map)))
+    (λ c. let z = sizes t (to-layered t (lent-first t (c .before))) in search needs)
+    (λ c. let e = to-layered t (lent-first t (c .before .before)) in sym (length-take-le (half t e) (entry t e .args .word .now) (sizes t e .in-word)))
+    (λ c. let z = sizes t (to-layered t (lent-first t (c .before .before))) in search needs)
+    (λ c. let e = to-layered t (lent-first t (c .before .before .before)) in sym (length-take-le (half t e) (entry t e .args .symbols .now) (sizes t e .in-symbols)))
+    (λ c. let z = sizes t (to-layered t (lent-first t (c .before .before .before))) in search needs)
+    (λ c. let k = lent-first t (c .before .before .before .before) in sym (length-take-le (cut t (to-layered t k)) (noted t k) (noted-room t k)))
+    (λ c κs.
+    let k = lent-first t (c .before .before .before .before) in
+    let e = to-layered t k in
+    (fewer (entry t e .args .block .layers) t (layer t e) (entry t e .pre .0), laws.at-first (layer t e) (again t k) (checked-long t k) (k .check-nodes .ensures)))
+    -- the variable nodes
+    (λ c. let z = sizes t (layered t (lent-variable t c)) in omega arith)
+    (λ c. report-part t (lent-variable t c))
+    (λ c. report-part t (lent-variable t (c .before)))
+    (λ c. search needs)
+    (λ c κs.
+    let d = lent-variable t (c .before .before) in
+    let e = layered t d in
+    let g = again t (to-checked t d) in
+    (laws.at-variable (layer t e) g (first-half t d), laws.at-symbols (layer t e) g (first-half t d), laws.at-ordered (layer t e) g (first-half t d)))
+    -- the second half
+    (λ c. search needs)
+    (λ c. search needs)
+    (λ c. search needs)
+    (λ c. word-part t (to-first t (lent-second t c)))
+    (λ c. word-part t (to-first t (lent-second t c)))
+    (λ c. search needs)
+    (λ c. symbols-part t (to-first t (lent-second t (c .before))))
+    (λ c. symbols-part t (to-first t (lent-second t (c .before))))
+    (λ c. search needs)
+    (λ c. let z = sizes t (layered t (to-first t (lent-second t (c .before .before)))) in omega arith)
+    (λ c. report-part t (to-first t (lent-second t (c .before .before))))
+    (λ c. report-part t (to-first t (lent-second t (c .before .before))))
+    (λ c. search needs)
+    (λ c κs.
+    let v = lent-second t (c .before .before .before) in
+    let d = to-first t v in
+    let e = layered t d in
+    (fewer (entry t e .args .block .layers) t (layer t e) (entry t e .pre .0), laws.at-second (layer t e) (again t (to-checked t d)) (first-half t d) (variable-long t v) (v .variable-nodes .ensures)))
+    -- the words joined, and what is left
+    (λ c κs. tt)
+    (λ c. let n = few-counted t (to-second t (c .before .before)) in omega arith)
+    (λ c. let n = few-counted t (to-second t (c .before .before)) in omega arith)
+    (λ c.
+    let s = to-second t (c .before .before) in
+    let d = to-first t (to-variable t s) in
+    s .decode-block2 .kept .1 .1 .1 .1 .0 ∙ variable-long t (to-variable t s) ∙ first-half t d .work-long ∙ first-half t d .checked-long)
+    (λ c.
+    let s = to-second t (c .before .before) in
+    let d = to-first t (to-variable t s) in
+    let e = layered t d in
+    c .before .before .join-halves .kept .1 .1 .1 .0 ∙ lent-whole (half t e) (entry t e .args .word .now) (first-left t d .word) (first-half t d .word-long) (sizes t e .in-word) (second-left t s .word) (second-half t s .word-long))
+    (λ c.
+    let s = to-second t (c .before .before) in
+    let d = to-first t (to-variable t s) in
+    let e = layered t d in
+    lent-whole (half t e) (entry t e .args .symbols .now) (first-left t d .symbols) (first-half t d .symbols-long) (sizes t e .in-symbols) (second-left t s .symbols) (s .decode-block2 .kept .1 .1 .1 .1 .1 .1 .0))
+    (λ c.
+    let s = to-second t (c .before .before) in
+    let d = to-first t (to-variable t s) in
+    let k = to-checked t d in
+    lent-whole (cut t (to-layered t k)) (noted t k) (first-left t d .report) (first-half t d .report-long) (noted-room t k) (second-left t s .report) (s .decode-block2 .kept .1 .1 .1 .1 .1 .1 .1 .0)
+    ∙ noted-long t k)
+    (λ c. done t (c .before .before))

@@ -9,9 +9,10 @@ use lib.Seq.{length-take-le}
 use borrow.Author.Needs.{needs}
 use Rattle.vector.specs.Frame.{largest}
 use Rattle.vector.proofs.FrameLaws.{largest-is, largest-most}
-use Rattle.scms.specs.Decoder.{capOf}
-use Rattle.decoder_refusal.specs.Refusals.{Decodable}
-use Rattle.decoder_refusal.proofs.RefusalLaws.{taken}
+use Rattle.polar_code.specs.Code.{Code, codeOf}
+use Rattle.scms.specs.Mode.{capOf}
+use Rattle.decoder_refusal.specs.Refusals.{Settings, Lent, settingsOf, lentOf, Decodable}
+use Rattle.decoder_refusal.proofs.RefusalLaws.{accepted}
 use Rattle.decoder.proofs.DecodeLaws.{whole-given, symbols-decoded, count-decoded, report-decoded, promise-refused, promise-accepted}
 use Rattle.decoder.proofs.decoder.decode.Statement.{statement}
 use Rattle.decoder.proofs.decoder.decode.Tie as tie
@@ -20,90 +21,89 @@ use Rattle.decoder.proofs.decoder.decode.Tie as tie
 abbrev entry : tie.Else1 → tie.Start
 entry c = c .before .before .before .before .before .before .before .before .before .before .before
 
+-- from the place where the cap is known to that test, from the place where the word is decoded to that of the cap, and
+-- from the end to the decoded word
+abbrev to-fits : tie.After-largest → tie.Else1
+to-fits c = c .before
+
+abbrev to-cap : tie.After-decode-block → tie.After-largest
+to-cap c = c .before .before .before .before .before
+
+abbrev to-decoded : tie.After-clear → tie.After-decode-block
+to-decoded c = c .before .before .before .before .before .before .before .before .before
+
+-- what the call was given: the code, the precisions, the frame and the buffers
+abbrev code : tie.Start → Code
+code s = codeOf (s .args .n) (s .args .map .now) (s .args .coefs .now)
+
+abbrev settings : tie.Start → Settings
+settings s = settingsOf (s .args .qc) (s .args .qm)
+
+abbrev lent : tie.Start → Lent
+lent s = lentOf (s .args .work .now) (s .args .symbols .now) (s .args .report .now)
+
 -- no row of the table fits
-fits : (c : tie.Else1) → let a = entry c .args in Decodable (a .n) (a .map .now) (a .coefs .now) (a .qc) (a .qm) (a .frame .now) (a .work .now) (a .symbols .now) (a .report .now)
-fits c = taken _ _ _ _ _ _ _ _ _ (sym (c .before .decode-refusal .ensures) ∙ c .if1 .left)
+fits : (c : tie.Else1) → let s = entry c in Decodable (code s) (settings s) (s .args .frame .now) (lent s)
+fits c = let s = entry c in accepted (code s) (settings s) (s .args .frame .now) (lent s) (sym (c .before .decode-refusal .ensures) ∙ c .if1 .left)
 
 -- so the word has at most 256 places
 few : (c : tie.Else1) → length (entry c .args .map .now) ≤ 256
-few c = let t = fits c in let size = pow-mono {i = entry c .args .n} {j = 8} (t .code .layers .most) in let e = t .code .map-long in omega arith
+few c =
+    let t = fits c in
+    let size = pow-mono {i = entry c .args .n} {j = 8} (t .is-code .layers .most) in
+    let e = t .is-code .map-long in
+    omega arith
 
 -- the cap is 2^Qm − 1
-cap-is : (c : tie.Else1) → largest (entry c .args .qm) ≡ capOf (entry c .args .qm)
+cap-is : (c : tie.After-largest) → c .largest .result ≡ capOf (entry (to-fits c) .args .qm)
 unfolding capOf
-cap-is c = largest-is (entry c .args .qm) (fits c .internal-precision .most)
+cap-is c = c .largest .ensures ∙ largest-is (entry (to-fits c) .args .qm) (fits (to-fits c) .internal-precision .most)
 
 -- the part of the local array that is lent for the word is as long as the map
-lent : (c : tie.Else1) → length (take (length (entry c .args .map .now)) (replicate {A = ℕ} 256 0)) ≡ length (entry c .args .map .now)
-lent c = length-take-le (length (entry c .args .map .now)) (replicate 256 0) (few c)
-
-decode-refusal-requires : tie.Need-decode-refusal-requires
-decode-refusal-requires c κs = search needs
-
-same-length : tie.Need-same-length
-same-length c = search needs
-
-same-length-2 : tie.Need-same-length-2
-same-length-2 c = search needs
-
-same-length-3 : tie.Need-same-length-3
-same-length-3 c = search needs
+word-long : (c : tie.Else1) → length (take (length (entry c .args .map .now)) (replicate {A = ℕ} 256 0)) ≡ length (entry c .args .map .now)
+word-long c = length-take-le (length (entry c .args .map .now)) (replicate 256 0) (few c)
 
 returns : tie.Need-returns
-returns c = promise-refused (c .before .decode-refusal .ensures) (c .if1 .taken)
-
-largest-requires : tie.Need-largest-requires
-largest-requires c κs = search needs
-
-array-borrow-prefix-word : tie.Need-array-borrow-prefix-word
-array-borrow-prefix-word c = few (c .before .before)
-
-slice-aggregate-decode-block : tie.Need-slice-aggregate-decode-block
-slice-aggregate-decode-block c = sym (lent (c .before .before .before))
+returns c = promise-refused _ _ _ _ (c .before .decode-refusal .ensures) (c .if1 .taken)
 
 decode-block-requires : tie.Need-decode-block-requires
 decode-block-requires c κs =
-    let e = c .before .before .before .before .before in
-    let cap = c .before .before .before .before .largest .ensures in
-    whole-given (fits e) (lent e ∙ fits e .code .map-long) (cap ∙ cap-is e) (le-trans (le-of-eq cap) (largest-most (entry e .args .qm)))
-
-clear-requires : tie.Need-clear-requires
-clear-requires c κs = search needs
-
-same-length-4 : tie.Need-same-length-4
-same-length-4 c = search needs
-
-same-length-5 : tie.Need-same-length-5
-same-length-5 c = search needs
-
-same-length-6 : tie.Need-same-length-6
-same-length-6 c = search needs
+    let l = c .before .before .before .before in
+    let e = to-fits l in
+    whole-given (code (entry e)) (settings (entry e)) _ (lent (entry e)) (fits e) (word-long e ∙ fits e .is-code .map-long) (cap-is l)
+    (le-trans (le-of-eq (l .largest .ensures)) (largest-most (entry e .args .qm)))
 
 returns-2 : tie.Need-returns-2
 returns-2 c =
-    let e = c .before .before .before .before .before .before .before .before .before .before .before .before .before .before .before .before .before in
+    let cleared = c .before .before in
+    let d = to-decoded cleared in
+    let l = to-cap d in
+    let e = to-fits l in
+    let s = entry e in
     let t = fits e in
-    let cap = c .before .before .before .before .before .before .before .before .before .before .before .before .before .before .before .before .largest .ensures ∙ cap-is e in
-    let d = c .before .before .before .before .before .before .before .before .before .before .before .decode-block in
-    let long = d .kept .1 .1 .1 .1 .1 .1 .1 .1 .1 .1 .0 ∙ t .report-long in
-    promise-accepted (sym (e .before .decode-refusal .ensures) ∙ e .if1 .left) (count-decoded t cap long (d .ensures .decoded)) (symbols-decoded t cap long (d .ensures .decoded))
-    (report-decoded t cap long (d .ensures .decoded)) (c .before .before .clear .ensures ∙ ap (λ (x : ℕ). replicate x 0) (d .kept .1 .1 .1 .1 .1 .1 .1 .0 ∙ t .work-long))
+    let long = d .decode-block .kept .1 .1 .1 .1 .1 .1 .1 .0 ∙ t .report-long in
+    let by = d .decode-block .ensures .decoded in
+    promise-accepted (code s) (settings s) (s .args .frame .now) (lent s) (sym (e .before .decode-refusal .ensures) ∙ e .if1 .left)
+    (count-decoded (code s) (settings s) _ (lent s) t (cap-is l) long by)
+    (symbols-decoded (code s) (settings s) _ (lent s) t (cap-is l) long by)
+    (report-decoded (code s) (settings s) _ (lent s) t (cap-is l) long by)
+    (cleared .clear .ensures ∙ ap (λ (x : ℕ). replicate x 0) (d .decode-block .kept .1 .1 .1 .1 .0 ∙ t .work-long))
 
 pub decode-spec : {M : Type 1} → statement M
 decode-spec =
     tie.close
     (tie.spec
-    decode-refusal-requires
-    same-length
-    same-length-2
-    same-length-3
+    (λ c κs. tt)
+    (λ c. search needs)
+    (λ c. search needs)
+    (λ c. search needs)
     returns
-    largest-requires
-    array-borrow-prefix-word
-    slice-aggregate-decode-block
+    (λ c κs. tt)
+    (λ c. few (c .before .before))
+    (λ c. sym (word-long (c .before .before .before)))
     decode-block-requires
-    clear-requires
-    same-length-4
-    same-length-5
-    same-length-6
+    (λ c κs. tt)
+    (λ c. search needs)
+    (λ c. search needs)
+    (λ c. search needs)
     returns-2)

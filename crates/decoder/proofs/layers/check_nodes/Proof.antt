@@ -1,4 +1,5 @@
--- `check_nodes` meets its contract: the check nodes of the kernels before t are stored, and phi's vectors of these in the order of c.
+-- `check_nodes` meets its contract: the check nodes of the kernels before t are stored, and phi's vectors of these in the
+-- order of c.
 use mathlib.Core.Path.{_≡_, refl, ap, ap₂, _∙_}
 use mathlib.Core.List.{_++_}
 use Prim.Native.Nat.{ℕ, _+_, _-_}
@@ -6,124 +7,98 @@ use native.Mathlib.Omega.{arith}
 use borrow.Author.Needs.{needs}
 use lib.ListN.{getD}
 use Rattle.vector.specs.Vector.{vectorAt}
-use Rattle.polar.proofs.Numbers.{getD-any}
-use Rattle.scms.specs.Nodes.{scaled}
-use Rattle.scms.proofs.NodeLaws.{check-long}
-use Rattle.check_node.specs.Parts.{checkFrom}
-use Rattle.phi_order.proofs.OrderLaws.{scaled-small, ordered-low, low-ordered}
-use Rattle.check_node.proofs.NodeLaws.{check-from}
+use Rattle.vector.proofs.Entries.{getD-any}
+use Rattle.scms.specs.Nodes.{ordered, checkFrom}
+use Rattle.scms.proofs.NodeLaws.{check-long, check-from}
+use Rattle.phi_order.proofs.OrderLaws.{ordered-small, ordered-low, low-ordered}
 use Rattle.decoder.specs.Parts.{checkAt, orderedAt}
-use Rattle.decoder.proofs.LayerLaws.{StoredNodes, layer-none, layer-more, source-small, loaded-is, low-is, StoredFirst, first-none, first-more}
+use Rattle.decoder.proofs.LayerLaws.{blockFrom, StoredNodes, layer-none, layer-more, source-small, loaded-is, low-is, StoredFirst, first-none, first-more}
 use Rattle.decoder.proofs.layers.check_nodes.Statement.{statement}
 use Rattle.decoder.proofs.layers.check_nodes.Tie as tie
 
 abbrev Inv-loop : tie.InvT-loop
-Inv-loop at half start coefs frame work₀ ordered₀ to t₀ work ordered t =
-    StoredNodes at half frame work₀ (checkAt at half start coefs (frame ++ work₀)) work t
-    × StoredFirst half ordered₀ (orderedAt at half start coefs (frame ++ work₀)) ordered t
+Inv-loop half coefs frame work₀ room₀ places at start to t₀ work room t =
+    StoredNodes at half frame work₀ (checkAt (blockFrom start at) half coefs (frame ++ work₀)) work t
+    × StoredFirst half room₀ (orderedAt (blockFrom start at) half coefs (frame ++ work₀)) room t
 
 abbrev μ-loop : tie.MeasureT-loop
-μ-loop at half start coefs frame work₀ ordered₀ to t₀ work ordered t = half - t
+μ-loop half coefs frame work₀ room₀ places at start to t₀ work room t = half - t
 
 -- the entry, from the loop's head
 abbrev entry : tie.At-loop Inv-loop μ-loop → tie.Start Inv-loop μ-loop
 entry c = c .before .before .before .before .before
 
-add-to : tie.Need-add-to Inv-loop μ-loop
-add-to c = search needs
+-- from the places where the results of the calls are known to the ones before them: the check node, phi's vector stored,
+-- phi's vector in the order of c, phi's vector, theta's vector, and the turn's start
+abbrev to-stored : tie.After-check-node Inv-loop μ-loop → tie.After-store Inv-loop μ-loop
+to-stored c = c .before .before .before .before .before
 
-add-to-2 : tie.Need-add-to-2 Inv-loop μ-loop
-add-to-2 c = search needs
+abbrev to-ordered : tie.After-store Inv-loop μ-loop → tie.After-ordered Inv-loop μ-loop
+to-ordered c = c .before .before .before
 
-sub-to : tie.Need-sub-to Inv-loop μ-loop
-sub-to c = search needs
+abbrev to-phi : tie.After-ordered Inv-loop μ-loop → tie.After-load-vector2 Inv-loop μ-loop
+to-phi c = c .before .before .before
+
+abbrev to-theta : tie.After-load-vector2 Inv-loop μ-loop → tie.After-load-vector Inv-loop μ-loop
+to-theta c = c .before .before
+
+abbrev to-turn : tie.After-load-vector Inv-loop μ-loop → tie.In-loop Inv-loop μ-loop
+to-turn c = c .before .before
+
+-- the turn, from the check node
+abbrev turn-of : tie.After-check-node Inv-loop μ-loop → tie.In-loop Inv-loop μ-loop
+turn-of c = to-turn (to-theta (to-phi (to-ordered (to-stored c))))
 
 loop-holds : tie.Need-loop-holds Inv-loop μ-loop
 loop-holds c = (layer-none, first-none (c .before .before .before .before .pre .1))
 
-add-load-vector : tie.Need-add-load-vector Inv-loop μ-loop
-add-load-vector c = search needs
-
-load-vector-requires : tie.Need-load-vector-requires Inv-loop μ-loop
-load-vector-requires c κs = search needs
-
-add-load-vector-2 : tie.Need-add-load-vector-2 Inv-loop μ-loop
-add-load-vector-2 c = search needs
-
-add-load-vector-3 : tie.Need-add-load-vector-3 Inv-loop μ-loop
-add-load-vector-3 c = search needs
-
-load-vector-requires-2 : tie.Need-load-vector-requires-2 Inv-loop μ-loop
-load-vector-requires-2 c κs = search needs
-
-add-scaled : tie.Need-add-scaled Inv-loop μ-loop
-add-scaled c = search needs
-
-shared-slice-read-scaled : tie.Need-shared-slice-read-scaled Inv-loop μ-loop
-shared-slice-read-scaled c = search needs
-
-scaled-requires : tie.Need-scaled-requires Inv-loop μ-loop
-scaled-requires c κs = search needs
-
-store-requires : tie.Need-store-requires Inv-loop μ-loop
-store-requires c κs = search needs
-
-check-node-requires : tie.Need-check-node-requires Inv-loop μ-loop
-check-node-requires c κs = search needs
-
 add-store : tie.Need-add-store Inv-loop μ-loop
 add-store c =
-    let turn = c .before .before .before .before .before .before .before .before .before .before .before .before .before .before .before .before in
+    let turn = turn-of (c .before) in
     let g = entry (turn .before) .pre .0 .layer in
     let l = turn .loop-test .taken in
     omega arith
 
-store-requires-2 : tie.Need-store-requires-2 Inv-loop μ-loop
-store-requires-2 c κs = search needs
+-- the place after a node was stored, from the end of the turn
+abbrev to-node : tie.After-store2 Inv-loop μ-loop → tie.After-check-node Inv-loop μ-loop
+to-node c = c .before .before .before
 
 add-t : tie.Need-add-t Inv-loop μ-loop
 add-t c =
-    let turn = c .before .before .before .before .before .before .before .before .before .before .before .before .before .before .before .before .before .before .before .before in
+    let turn = turn-of (to-node (c .before .before)) in
     let g = entry (turn .before) .pre .0 .layer in
     let l = turn .loop-test .taken in
     omega arith
 
-loop-less : tie.Need-loop-less Inv-loop μ-loop
-loop-less c = search needs
-
 loop-again : tie.Need-loop-again Inv-loop μ-loop
 loop-again c =
-    let made = c .before .before .before .before .before in
-    let put = made .before .before .before .before .before in
-    let order = put .before .before .before in
-    let second = order .before .before .before in
-    let first = second .before .before in
-    let turn = first .before .before in
+    let made = to-node (c .before .before) in
+    let put = to-stored made in
+    let order = to-ordered put in
+    let second = to-phi order in
+    let first = to-theta second in
+    let turn = to-turn first in
     let h = turn .before .loop in
     let s = entry (turn .before) in
     let a = s .args in
+    let at = a .block .at in
+    let start = a .block .start in
     let layer = s .pre .0 .layer in
     let l = turn .loop-test .taken in
-    let coef : getD (a .coefs .now) (a .start + h .t) 0 ≡ getD (a .coefs .now) (a .start + h .t) 1 = getD-any (a .coefs .now) (a .start + h .t) 0 1 (let r = s .pre .0 .room in omega arith) in
-    let k = getD (a .coefs .now) (a .start + h .t) 1 in
-    let phi = vectorAt (a .frame .now ++ a .work .now) (a .at + (a .half + h .t)) in
+    let coef : getD (a .coefs .now) (start + h .t) 0 ≡ getD (a .coefs .now) (start + h .t) 1 = getD-any (a .coefs .now) (start + h .t) 0 1 (let r = s .pre .0 .room in omega arith) in
+    let k = getD (a .coefs .now) (start + h .t) 1 in
+    let phi = vectorAt (a .frame .now ++ a .work .now) (at + (a .half + h .t)) in
     let small = source-small layer (a .half + h .t) (omega arith) in
-    let x : order .scaled .result ≡ scaled k phi =
-    ordered-low (getD (a .coefs .now) (a .start + h .t) 0) phi (loaded-is layer (h .inv .0) (a .half + h .t) (omega arith) _ (second .load-vector2 .ensures)) (order .scaled .ensures) small
-    ∙ ap (λ (j : ℕ). scaled j phi) coef in
+    let x : order .ordered .result ≡ ordered k phi =
+    ordered-low (getD (a .coefs .now) (start + h .t) 0) phi (loaded-is layer (h .inv .0) (a .half + h .t) (omega arith) _ (second .load-vector2 .ensures)) (order .ordered .ensures) small
+    ∙ ap (λ (j : ℕ). ordered j phi) coef in
     let node =
     made .check-node .ensures
     ∙ ap₂ checkFrom (low-is layer (h .inv .0) (h .t) (omega arith) _ (first .load-vector .ensures)) (low-ordered k phi x small)
-    ∙ check-from k (vectorAt (a .frame .now ++ a .work .now) (a .at + h .t)) phi in (
+    ∙ check-from k (vectorAt (a .frame .now ++ a .work .now) (at + h .t)) phi in (
       layer-more layer (h .inv .0) l (made .check-node .result) node (check-long _ _ _) _ (c .before .before .store2 .ensures),
-      first-more (h .inv .1) l x (scaled-small k phi (scaled k phi) refl small .long) (put .store .ensures),
+      first-more (h .inv .1) l x (ordered-small k phi (ordered k phi) refl small .long) (put .store .ensures),
     )
-
-same-length : tie.Need-same-length Inv-loop μ-loop
-same-length c = search needs
-
-same-length-2 : tie.Need-same-length-2 Inv-loop μ-loop
-same-length-2 c = search needs
 
 returns : tie.Need-returns Inv-loop μ-loop
 returns c =
@@ -136,25 +111,25 @@ check-nodes-spec =
     (tie.spec
     Inv-loop
     μ-loop
-    add-to
-    add-to-2
-    sub-to
+    (λ c. search needs)
+    (λ c. search needs)
+    (λ c. search needs)
     loop-holds
-    add-load-vector
-    load-vector-requires
-    add-load-vector-2
-    add-load-vector-3
-    load-vector-requires-2
-    add-scaled
-    shared-slice-read-scaled
-    scaled-requires
-    store-requires
-    check-node-requires
+    (λ c. search needs)
+    (λ c κs. search needs)
+    (λ c. search needs)
+    (λ c. search needs)
+    (λ c κs. search needs)
+    (λ c. search needs)
+    (λ c. search needs)
+    (λ c κs. tt)
+    (λ c κs. tt)
+    (λ c κs. tt)
     add-store
-    store-requires-2
+    (λ c κs. tt)
     add-t
-    loop-less
+    (λ c. search needs)
     loop-again
-    same-length
-    same-length-2
+    (λ c. search needs)
+    (λ c. search needs)
     returns)

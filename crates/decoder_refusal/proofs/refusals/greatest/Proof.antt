@@ -32,8 +32,9 @@ loop-less c = search needs
 
 loop-again : tie.Need-loop-again Inv-loop μ-loop
 loop-again c =
-    let frame = c .before .before .before .before .args .frame .now in
-    let at = c .before .before .before .loop in
+    let head = c .before .before .before in
+    let frame = head .before .args .frame .now in
+    let at = head .loop in
     let there : at .i < length frame = omega arith in
     ⊎-elim
     (λ w. (omega arith, subst (λ (m : ℕ). Kept frame m (at .i + 1)) (sym (w .1)) (keep-new frame (at .m) (at .i) (at .inv .1) there (w .0 .taken))))

@@ -1,141 +1,40 @@
--- `size_refusal` meets its contract: it goes down the table of the sizes and stops at the first row that fits.
-use mathlib.Core.Path.{_≡_, sym, ap, _∙_}
-use mathlib.Core.List.{List}
-use Prim.Native.Nat.{ℕ, _*_, _/_, _%_, _^_, _≤_}
-use native.Mathlib.Nat.{mul-le-mul-right}
-use native.Mathlib.Omega.{arith}
+-- `size_refusal` meets its contract: the rows of `polar_code::size_refusal`, and then those on the buffers.
+use mathlib.Core.List.{[], _∷_}
 use borrow.Author.Needs.{needs}
-use lib.ListN.{drop}
-use lib.Pow.{pow-mono}
-use Rattle.refusal.specs.Table.{Row, refusalOf}
-use Rattle.refusal.proofs.Laws.{Finds, none, here, later, finds-refusal}
-use Rattle.refusal.proofs.Within.{below-outside, above-outside, within-inside, equal-false, unequal-true}
-use Rattle.decoder_refusal.specs.Refusals.{sizeTable}
+use Rattle.refusal.specs.Tests.{unequal}
+use Rattle.refusal.proofs.WalkLaws.{walked, call}
+use Rattle.polar_code.specs.Code.{codeOf}
+use Rattle.decoder_refusal.specs.Refusals.{lentOf}
+use Rattle.decoder_refusal.proofs.RefusalLaws.{buffers-tried}
 use Rattle.decoder_refusal.proofs.refusals.size_refusal.Statement.{statement}
 use Rattle.decoder_refusal.proofs.refusals.size_refusal.Tie as tie
 
--- the table for what the function was given
-abbrev table : tie.Start → List Row
-table s = sizeTable (s .args .n) (s .args .map .now) (s .args .coefs .now) (s .args .frame .now) (s .args .work .now) (s .args .symbols .now) (s .args .report .now)
-
--- the walk ends at k, so the function may return k
-ends : (s : tie.Start) {k : ℕ} → Finds (table s) k → k ≡ refusalOf (table s)
-ends s f = sym (finds-refusal f)
-
--- the entry, from the place after each test that did not fit
-abbrev s2 : tie.Else2 → tie.Start
-s2 c = c .before .before
-
-abbrev s3 : tie.Else3 → tie.Start
-s3 c = s2 (c .before)
-
-abbrev s4 : tie.Else4 → tie.Start
-s4 c = s3 (c .before)
-
-abbrev s5 : tie.Else5 → tie.Start
-s5 c = s4 (c .before)
-
-abbrev s6 : tie.Else6 → tie.Start
-s6 c = s5 (c .before)
-
-abbrev s7 : tie.Else7 → tie.Start
-s7 c = s6 (c .before)
-
-abbrev s8 : tie.Else8 → tie.Start
-s8 c = s7 (c .before)
-
--- the shift gives 2^n
-size : (c : tie.Else2) → 1 * 2 ^ s2 c .args .n % 2 ^ 64 ≡ 2 ^ s2 c .args .n
-size c = let l = pow-mono {i = s2 c .args .n} {j = 8} (c .if2 .left) in omega arith
-
--- the walk past each row
-past2 : (c : tie.Else2) {k : ℕ} → Finds (drop 1 (table (s2 c))) k → Finds (table (s2 c)) k
-past2 c f = later (within-inside 1 8 (s2 c .args .n) (record { least = c .before .if1 .left; most = c .if2 .left })) f
-
-past3 : (c : tie.Else3) {k : ℕ} → Finds (drop 2 (table (s3 c))) k → Finds (table (s3 c)) k
-past3 c f = past2 (c .before) (later (equal-false _ _ (c .if3 .left ∙ size (c .before))) f)
-
-past4 : (c : tie.Else4) {k : ℕ} → Finds (drop 3 (table (s4 c))) k → Finds (table (s4 c)) k
-past4 c f = past3 (c .before) (later (equal-false _ _ (c .if4 .left ∙ ap (λ (x : ℕ). s2 (c .before .before) .args .n * (x / 2)) (size (c .before .before)))) f)
-
-past5 : (c : tie.Else5) {k : ℕ} → Finds (drop 4 (table (s5 c))) k → Finds (table (s5 c)) k
-past5 c f = past4 (c .before) (later (equal-false _ _ (c .if5 .left ∙ ap (λ (x : ℕ). 64 * x) (size (c .before .before .before)))) f)
-
-past6 : (c : tie.Else6) {k : ℕ} → Finds (drop 5 (table (s6 c))) k → Finds (table (s6 c)) k
-past6 c f = past5 (c .before) (later (equal-false _ _ (c .if6 .left ∙ ap (λ (x : ℕ). 65 * x) (size (c .before .before .before .before)))) f)
-
-past7 : (c : tie.Else7) {k : ℕ} → Finds (drop 6 (table (s7 c))) k → Finds (table (s7 c)) k
-past7 c f = past6 (c .before) (later (equal-false _ _ (c .if7 .left ∙ size (c .before .before .before .before .before))) f)
-
-past8 : (c : tie.Else8) {k : ℕ} → Finds (drop 7 (table (s8 c))) k → Finds (table (s8 c)) k
-past8 c f = past7 (c .before) (later (equal-false _ _ (c .if8 .left ∙ ap (λ (x : ℕ). 64 * x) (size (c .before .before .before .before .before .before)))) f)
-
 returns : tie.Need-returns
-returns c = ends (c .before) (here (below-outside 1 8 (c .before .args .n) (c .if1 .taken)))
-
-returns-2 : tie.Need-returns-2
-returns-2 c = ends (c .before .before) (here (above-outside 1 8 (c .before .before .args .n) (c .if2 .taken)))
-
-shl-size : tie.Need-shl-size
-shl-size c = search needs
-
-returns-3 : tie.Need-returns-3
-returns-3 c = ends (s2 (c .before)) (past2 (c .before) (here (unequal-true _ _ (λ q. c .if3 .taken (q ∙ sym (size (c .before)))))))
-
-mul-if4 : tie.Need-mul-if4
-mul-if4 c =
-    let n = s3 c .args .n in
-    let few : n ≤ 8 = c .before .if2 .left in
-    let e = size (c .before) in
-    let l = pow-mono {i = n} {j = 8} few in
-    let m = mul-le-mul-right (1 * 2 ^ n % 2 ^ 64 / 2) few in
-    omega arith
-
-returns-4 : tie.Need-returns-4
-returns-4 c = ends (s3 (c .before)) (past3 (c .before) (here (unequal-true _ _ (λ q. c .if4 .taken (q ∙ sym (ap (λ (x : ℕ). s2 (c .before .before) .args .n * (x / 2)) (size (c .before .before))))))))
-
-mul-if5 : tie.Need-mul-if5
-mul-if5 c =
-    let e = size (c .before .before) in
-    let l = pow-mono {i = s4 c .args .n} {j = 8} (c .before .before .if2 .left) in
-    omega arith
-
-returns-5 : tie.Need-returns-5
-returns-5 c = ends (s4 (c .before)) (past4 (c .before) (here (unequal-true _ _ (λ q. c .if5 .taken (q ∙ sym (ap (λ (x : ℕ). 64 * x) (size (c .before .before .before))))))))
-
-mul-if6 : tie.Need-mul-if6
-mul-if6 c = search needs
-
-returns-6 : tie.Need-returns-6
-returns-6 c = ends (s5 (c .before)) (past5 (c .before) (here (unequal-true _ _ (λ q. c .if6 .taken (q ∙ sym (ap (λ (x : ℕ). 65 * x) (size (c .before .before .before .before))))))))
-
-returns-7 : tie.Need-returns-7
-returns-7 c = ends (s6 (c .before)) (past6 (c .before) (here (unequal-true _ _ (λ q. c .if7 .taken (q ∙ sym (size (c .before .before .before .before .before)))))))
-
-mul-if8 : tie.Need-mul-if8
-mul-if8 c = search needs
-
-returns-8 : tie.Need-returns-8
-returns-8 c = ends (s7 (c .before)) (past7 (c .before) (here (unequal-true _ _ (λ q. c .if8 .taken (q ∙ sym (ap (λ (x : ℕ). 64 * x) (size (c .before .before .before .before .before .before))))))))
-
-returns-9 : tie.Need-returns-9
-returns-9 c = ends (s8 c) (past8 c none)
+unfolding unequal
+returns c4 =
+    let s : tie.Start = search needs in
+    let a = s .args in
+    let c3 = c4 .before in
+    let c2 = c3 .before in
+    let c1 = c2 .before in
+    let c0 = c1 .before in
+    buffers-tried (codeOf (a .n) (a .map .now) (a .coefs .now)) (a .frame .now)
+    (lentOf (a .work .now) (a .symbols .now) (a .report .now)) (walked (call 3 ∷ []) _ tt (simp (
+      c4 .first4 .ensures,
+      c3 .first3 .ensures,
+      c2 .first2 .ensures,
+      c1 .first .ensures,
+      c0 .size-refusal .ensures,
+      c0 .before .place-count .ensures .0,
+    )))
 
 pub size-refusal-spec : {M : Type 1} → statement M
 size-refusal-spec =
     tie.close
     (tie.spec
-    returns
-    returns-2
-    shl-size
-    returns-3
-    mul-if4
-    returns-4
-    mul-if5
-    returns-5
-    mul-if6
-    returns-6
-    returns-7
-    mul-if8
-    returns-8
-    returns-9)
+    (λ c κs. tt) (λ c κs. tt)
+    (λ c. search needs) (λ c κs. tt)
+    (λ c. search needs) (λ c κs. tt)
+    (λ c κs. tt)
+    (λ c. search needs) (λ c κs. tt)
+    returns)

@@ -18,24 +18,6 @@ abbrev μ-loop : tie.MeasureT-loop
 loop-holds : tie.Need-loop-holds Inv-loop μ-loop
 loop-holds c = fill-none refl
 
-shr-chips : tie.Need-shr-chips Inv-loop μ-loop
-shr-chips c = search needs
-
-cast-chips : tie.Need-cast-chips Inv-loop μ-loop
-cast-chips c = search needs
-
-mul-chips : tie.Need-mul-chips Inv-loop μ-loop
-mul-chips c = search needs
-
-array-write-chips : tie.Need-array-write-chips Inv-loop μ-loop
-array-write-chips c = search needs
-
-add-j : tie.Need-add-j Inv-loop μ-loop
-add-j c = search needs
-
-loop-less : tie.Need-loop-less Inv-loop μ-loop
-loop-less c = search needs
-
 loop-again : tie.Need-loop-again Inv-loop μ-loop
 unfolding chip
 loop-again c = fill-more (c .before .loop .inv) (omega arith) refl
@@ -46,16 +28,9 @@ returns c = fill-all (c .before .loop .inv) (c .loop-test .left)
 
 pub chips-twice-spec : {M : Type 1} → statement M
 chips-twice-spec =
-    tie.close
-    (tie.spec
-    Inv-loop
-    μ-loop
+    tie.close (tie.spec Inv-loop μ-loop
     loop-holds
-    shr-chips
-    cast-chips
-    mul-chips
-    array-write-chips
-    add-j
-    loop-less
+    (λ c. search needs) (λ c. search needs) (λ c. search needs) (λ c. search needs) (λ c. search needs)
+    (λ c. search needs)
     loop-again
     returns)

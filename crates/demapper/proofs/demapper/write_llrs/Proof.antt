@@ -15,73 +15,49 @@ Inv-loop base samples top bottom qc llrs₀ chips count i₀ llrs i = Written ba
 abbrev μ-loop : tie.MeasureT-loop
 μ-loop base samples top bottom qc llrs₀ chips count i₀ llrs i = count - i
 
-chips-twice-requires : tie.Need-chips-twice-requires Inv-loop μ-loop
-chips-twice-requires c κs = search needs
+-- the entry, from the loop's head
+abbrev entry : tie.At-loop Inv-loop μ-loop → tie.Start Inv-loop μ-loop
+entry c = c .before .before .before
+
+-- the turn, from the place where a symbol's vector is made, and that place, from the one after it is stored
+abbrev to-turn : tie.After-symbol-llrs Inv-loop μ-loop → tie.In-loop Inv-loop μ-loop
+to-turn c = c .before .before .before
+
+abbrev to-vector : tie.After-store Inv-loop μ-loop → tie.After-symbol-llrs Inv-loop μ-loop
+to-vector c = c .before .before .before
 
 loop-holds : tie.Need-loop-holds Inv-loop μ-loop
 loop-holds c = written-none _ _ _ _ _ _ (c .before .before .pre .room)
 
-mul-at : tie.Need-mul-at Inv-loop μ-loop
-mul-at c = search needs
-
-add-end : tie.Need-add-end Inv-loop μ-loop
-add-end c = search needs
-
-sub-symbol-llrs : tie.Need-sub-symbol-llrs Inv-loop μ-loop
-sub-symbol-llrs c = search needs
-
-part-symbol-llrs-start : tie.Need-part-symbol-llrs-start Inv-loop μ-loop
-part-symbol-llrs-start c = search needs
-
-part-symbol-llrs-end : tie.Need-part-symbol-llrs-end Inv-loop μ-loop
-part-symbol-llrs-end c = search needs
-
 symbol-llrs-requires : tie.Need-symbol-llrs-requires Inv-loop μ-loop
 unfolding vectorAt
 symbol-llrs-requires c κs =
-    let start = c .before .before .before .before .before .before in
+    let start = entry (c .before .before .before) in
     let i = c .before .before .before .loop .i in
     let size : 64 * i + 64 - 64 * i ≡ 64 = omega arith in
     (rw size (vector-long (start .args .samples .now) i (omega arith)), start .pre .scale)
 
-store-requires : tie.Need-store-requires Inv-loop μ-loop
-store-requires c κs = search needs
-
-add-i : tie.Need-add-i Inv-loop μ-loop
-add-i c = search needs
-
-loop-less : tie.Need-loop-less Inv-loop μ-loop
-loop-less c = search needs
-
 loop-again : tie.Need-loop-again Inv-loop μ-loop
 loop-again c =
-    let at = c .before .before .before .before .before .before .before .before .before .loop in
+    let stored = c .before .before in
+    let made = to-vector stored in
+    let turn = to-turn made in
+    let at = turn .before .loop in
     let size : 64 * at .i + 64 - 64 * at .i ≡ 64 = omega arith in
-    written-more _ _ _ _ _ _ _ (at .inv) (c .before .before .before .before .before .before .before .before .loop-test .taken) _ _ _ size (c .before .before .before .before .before .before .before .before .before .before .chips-twice .ensures) (c .before .before .before .before .before .symbol-llrs .ensures) _ (c .before .before .store .ensures)
-
-same-length : tie.Need-same-length Inv-loop μ-loop
-same-length c = search needs
+    written-more _ _ _ _ _ _ _ (at .inv) (turn .loop-test .taken) _ _ _ size
+    (turn .before .before .chips-twice .ensures) (made .symbol-llrs .ensures) _ (stored .store .ensures)
 
 returns : tie.Need-returns Inv-loop μ-loop
-returns c = written-all _ _ _ _ _ _ _ (c .before .loop .inv) (c .before .before .before .before .pre .whole) (c .loop-test .left)
+returns c = written-all _ _ _ _ _ _ _ (c .before .loop .inv) (entry (c .before) .pre .whole) (c .loop-test .left)
 
 pub write-llrs-spec : {M : Type 1} → statement M
 write-llrs-spec =
-    tie.close
-    (tie.spec
-    Inv-loop
-    μ-loop
-    chips-twice-requires
+    tie.close (tie.spec Inv-loop μ-loop
+    (λ c κs. search needs)
     loop-holds
-    mul-at
-    add-end
-    sub-symbol-llrs
-    part-symbol-llrs-start
-    part-symbol-llrs-end
+    (λ c. search needs) (λ c. search needs) (λ c. search needs) (λ c. search needs) (λ c. search needs)
     symbol-llrs-requires
-    store-requires
-    add-i
-    loop-less
+    (λ c κs. search needs) (λ c. search needs) (λ c. search needs)
     loop-again
-    same-length
+    (λ c. search needs)
     returns)

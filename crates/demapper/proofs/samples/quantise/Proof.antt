@@ -18,27 +18,6 @@ abbrev μ-loop : tie.MeasureT-loop
 loop-holds : tie.Need-loop-holds Inv-loop μ-loop
 loop-holds c = fill-none refl
 
-mul-quantised : tie.Need-mul-quantised Inv-loop μ-loop
-mul-quantised c = search needs
-
-element-copy-out-quantised : tie.Need-element-copy-out-quantised Inv-loop μ-loop
-element-copy-out-quantised c = search needs
-
-quantised-requires : tie.Need-quantised-requires Inv-loop μ-loop
-quantised-requires c κs = search needs
-
-mul-r : tie.Need-mul-r Inv-loop μ-loop
-mul-r c = search needs
-
-array-write-r : tie.Need-array-write-r Inv-loop μ-loop
-array-write-r c = search needs
-
-add-s : tie.Need-add-s Inv-loop μ-loop
-add-s c = search needs
-
-loop-less : tie.Need-loop-less Inv-loop μ-loop
-loop-less c = search needs
-
 loop-again : tie.Need-loop-again Inv-loop μ-loop
 loop-again c = fill-more (c .before .before .before .loop .inv) (omega arith) (c .quantised .ensures)
 
@@ -48,17 +27,9 @@ returns c = fill-all (c .before .loop .inv) (c .loop-test .left)
 
 pub quantise-spec : {M : Type 1} → statement M
 quantise-spec =
-    tie.close
-    (tie.spec
-    Inv-loop
-    μ-loop
+    tie.close (tie.spec Inv-loop μ-loop
     loop-holds
-    mul-quantised
-    element-copy-out-quantised
-    quantised-requires
-    mul-r
-    array-write-r
-    add-s
-    loop-less
+    (λ c. search needs) (λ c. search needs) (λ c κs. search needs) (λ c. search needs) (λ c. search needs)
+    (λ c. search needs) (λ c. search needs)
     loop-again
     returns)

@@ -27,15 +27,6 @@ mul-rounded-down c = let l = small c in omega arith
 rounded-down-requires : tie.Need-rounded-down-requires
 rounded-down-requires c κs = let l = small c in let b = c .pre .gain-bottom in (omega arith, b .least, b .most)
 
-largest-requires : tie.Need-largest-requires
-largest-requires c κs = search needs
-
-cast-if1 : tie.Need-cast-if1
-cast-if1 c = search needs
-
-cast-result : tie.Need-cast-result
-cast-result c = search needs
-
 returns : tie.Need-returns
 returns c = sym (smaller (c .before) ∙ min-eq-left (le-of-lt (c .if1 .taken)))
 
@@ -44,12 +35,9 @@ returns-2 c = sym (smaller (c .before) ∙ min-eq-right (c .if1 .left))
 
 pub quantised-spec : {M : Type 1} → statement M
 quantised-spec =
-    tie.close
-    (tie.spec
+    tie.close (tie.spec
     mul-rounded-down
     rounded-down-requires
-    largest-requires
-    cast-if1
-    cast-result
+    (λ c κs. search needs) (λ c. search needs) (λ c. search needs)
     returns
     returns-2)

@@ -20,6 +20,13 @@ Inv-loop chips samples sums₀ k₀ sums k = (k ≤ 64) × (sums ≡ rawTo chips
 abbrev μ-loop : tie.MeasureT-loop
 μ-loop chips samples sums₀ k₀ sums k = 64 - k
 
+-- from the place where a sample's size is known: the one where the sample is read, and the loop's head
+abbrev to-sample : tie.After-magnitude Inv-loop μ-loop → tie.After-y Inv-loop μ-loop
+to-sample c = c .before .before .before
+
+abbrev at-loop : tie.After-magnitude Inv-loop μ-loop → tie.At-loop Inv-loop μ-loop
+at-loop c = to-sample c .before .before
+
 -- before the first sample each sum is 0
 raw-start : (s : ℕ) → s < 64 → getD (replicate 64 0) s 0 ≤ 0
 raw-start s l = le-of-eq (getD-replicate 64 s 0 0 l)
@@ -31,32 +38,21 @@ loop-holds c = (omega arith, refl, raw-start)
 shared-slice-copy-out-y : tie.Need-shared-slice-copy-out-y Inv-loop μ-loop
 shared-slice-copy-out-y c = let e = c .before .before .pre in omega arith
 
-hard-chip-requires : tie.Need-hard-chip-requires Inv-loop μ-loop
-hard-chip-requires c κs = search needs
-
-magnitude-requires : tie.Need-magnitude-requires Inv-loop μ-loop
-magnitude-requires c κs = search needs
-
 with-sample-requires : tie.Need-with-sample-requires Inv-loop μ-loop
 with-sample-requires c κs =
-    let at = c .before .before .before .before .before .loop in
+    let at = at-loop c .loop in
     record { few = omega arith; small = c .magnitude .ensures .1; sums-small = at .inv .2 }
-
-add-k : tie.Need-add-k Inv-loop μ-loop
-add-k c = search needs
-
-loop-less : tie.Need-loop-less Inv-loop μ-loop
-loop-less c = search needs
 
 loop-again : tie.Need-loop-again Inv-loop μ-loop
 loop-again c =
-    let at = c .before .before .before .before .before .before .loop in
-    let a = c .before .before .before .before .before .before .before .args in
+    let at = at-loop (c .before) .loop in
+    let a = at-loop (c .before) .before .args in
     let made = c .with-sample .ensures in
     let size = c .before .magnitude .ensures in
-    let same = plain (getD (a .samples .now) (at .k) (pos 0)) (record { sfits = c .before .before .before .before .y .given }) in (
+    let same = plain (getD (a .samples .now) (at .k) (pos 0)) (record { sfits = to-sample (c .before) .y .given }) in (
       omega arith,
-      raw-more (a .chips .now) (a .samples .now) (at .k) (at .sums) (c .with-sample .result) _ _ made (at .inv .1) (c .before .before .hard-chip .ensures ∙ ap hardChip same) (size .0 ∙ ap magnitude same),
+      raw-more (a .chips .now) (a .samples .now) (at .k) (at .sums) (c .with-sample .result) _ _ made (at .inv .1)
+          (c .before .before .hard-chip .ensures ∙ ap hardChip same) (size .0 ∙ ap magnitude same),
       raw-small (a .chips .now) (a .samples .now) (at .k) (at .sums) (c .with-sample .result) _ _ made (at .inv .2) (size .1),
     )
 
@@ -68,16 +64,11 @@ returns c =
 
 pub raw-llrs-spec : {M : Type 1} → statement M
 raw-llrs-spec =
-    tie.close
-    (tie.spec
-    Inv-loop
-    μ-loop
+    tie.close (tie.spec Inv-loop μ-loop
     loop-holds
     shared-slice-copy-out-y
-    hard-chip-requires
-    magnitude-requires
+    (λ c κs. search needs) (λ c κs. search needs)
     with-sample-requires
-    add-k
-    loop-less
+    (λ c. search needs) (λ c. search needs)
     loop-again
     returns)

@@ -16,51 +16,28 @@ Inv-loop sums chips k hard size next₀ s₀ next s = Filled 64 (λ i. getD sums
 abbrev μ-loop : tie.MeasureT-loop
 μ-loop sums chips k hard size next₀ s₀ next s = 64 - s
 
+-- the loop's head, from the place where the number to add is known, and the entry, from the head
+abbrev at-loop : tie.After-added Inv-loop μ-loop → tie.At-loop Inv-loop μ-loop
+at-loop c = c .before .before .before .before
+
+abbrev entry : tie.At-loop Inv-loop μ-loop → tie.Start Inv-loop μ-loop
+entry c = c .before
+
 loop-holds : tie.Need-loop-holds Inv-loop μ-loop
 loop-holds c = fill-none refl
 
-mul-next : tie.Need-mul-next Inv-loop μ-loop
-mul-next c = search needs
-
-element-copy-out-next : tie.Need-element-copy-out-next Inv-loop μ-loop
-element-copy-out-next c = search needs
-
-add-added : tie.Need-add-added Inv-loop μ-loop
-add-added c = search needs
-
-mul-added : tie.Need-mul-added Inv-loop μ-loop
-mul-added c = search needs
-
-element-copy-out-added : tie.Need-element-copy-out-added Inv-loop μ-loop
-element-copy-out-added c = search needs
-
-added-requires : tie.Need-added-requires Inv-loop μ-loop
-added-requires c κs = search needs
-
 add-next : tie.Need-add-next Inv-loop μ-loop
 add-next c =
-    let start = c .before .before .before .before .before in
+    let start = entry (at-loop c) in
     let few = start .pre .few in
     let small = start .pre .small in
     let more = c .added .ensures .1 in
-    omega (arith, start .pre .sums-small (c .before .before .before .before .loop .s) (omega arith))
-
-mul-next-2 : tie.Need-mul-next-2 Inv-loop μ-loop
-mul-next-2 c = search needs
-
-array-write-next : tie.Need-array-write-next Inv-loop μ-loop
-array-write-next c = search needs
-
-add-s : tie.Need-add-s Inv-loop μ-loop
-add-s c = search needs
-
-loop-less : tie.Need-loop-less Inv-loop μ-loop
-loop-less c = search needs
+    omega (arith, start .pre .sums-small (at-loop c .loop .s) (omega arith))
 
 loop-again : tie.Need-loop-again Inv-loop μ-loop
 loop-again c =
-    let at = c .before .before .before .before .loop in
-    fill-more (at .inv) (omega arith) (ap (λ (x : ℕ). getD (c .before .before .before .before .before .args .sums .now) (at .s) 0 + x) (c .added .ensures .0))
+    let at = at-loop c .loop in
+    fill-more (at .inv) (omega arith) (ap (λ (x : ℕ). getD (entry (at-loop c) .args .sums .now) (at .s) 0 + x) (c .added .ensures .0))
 
 returns : tie.Need-returns Inv-loop μ-loop
 unfolding withSample
@@ -68,21 +45,11 @@ returns c = fill-all (c .before .loop .inv) (c .loop-test .left)
 
 pub with-sample-spec : {M : Type 1} → statement M
 with-sample-spec =
-    tie.close
-    (tie.spec
-    Inv-loop
-    μ-loop
+    tie.close (tie.spec Inv-loop μ-loop
     loop-holds
-    mul-next
-    element-copy-out-next
-    add-added
-    mul-added
-    element-copy-out-added
-    added-requires
+    (λ c. search needs) (λ c. search needs) (λ c. search needs) (λ c. search needs) (λ c. search needs)
+    (λ c κs. search needs)
     add-next
-    mul-next-2
-    array-write-next
-    add-s
-    loop-less
+    (λ c. search needs) (λ c. search needs) (λ c. search needs) (λ c. search needs)
     loop-again
     returns)

@@ -14,33 +14,22 @@ Inv-loop state s₀ n low range last₀ i₀ s last i = (i ≤ n) × DrawnBytes 
 abbrev μ-loop : tie.MeasureT-loop
 μ-loop state s₀ n low range last₀ i₀ s last i = n - i
 
+-- the loop's head, from the place where the next state is known, and that place, from the one after a byte is put
+abbrev at-loop : tie.After-step Inv-loop μ-loop → tie.At-loop Inv-loop μ-loop
+at-loop c = c .before .before
+
+abbrev to-step : tie.After-put Inv-loop μ-loop → tie.After-step Inv-loop μ-loop
+to-step c = c .before .before .before
+
 loop-holds : tie.Need-loop-holds Inv-loop μ-loop
 loop-holds c = (omega arith, drawn-none _ _ _ _)
 
-step-requires : tie.Need-step-requires Inv-loop μ-loop
-step-requires c κs = search needs
-
-drawn-requires : tie.Need-drawn-requires Inv-loop μ-loop
-drawn-requires c κs = search needs
-
-add-put : tie.Need-add-put Inv-loop μ-loop
-add-put c = search needs
-
-put-requires : tie.Need-put-requires Inv-loop μ-loop
-put-requires c κs = search needs
-
-add-i : tie.Need-add-i Inv-loop μ-loop
-add-i c = search needs
-
-loop-less : tie.Need-loop-less Inv-loop μ-loop
-loop-less c = search needs
-
 loop-again : tie.Need-loop-again Inv-loop μ-loop
 loop-again c =
-    let at = c .before .before .before .before .before .before .before .loop in (
-      omega arith,
-      drawn-next _ _ _ _ (at .i) (at .s) (at .last) (at .inv .1) _ _ _ (c .before .before .before .before .before .step .ensures) (c .before .before .before .drawn .ensures) (c .before .before .put .ensures),
-    )
+    let last = c .before .before in
+    let state = to-step last in
+    let at = at-loop state .loop in
+    (omega arith, drawn-next _ _ _ _ (at .i) (at .s) (at .last) (at .inv .1) _ _ _ (state .step .ensures) (last .before .drawn .ensures) (last .put .ensures))
 
 same-length : tie.Need-same-length Inv-loop μ-loop
 same-length c = c .before .loop .inv .1 .long
@@ -54,17 +43,10 @@ returns c =
 
 pub draw-bytes-spec : {M : Type 1} → statement M
 draw-bytes-spec =
-    tie.close
-    (tie.spec
-    Inv-loop
-    μ-loop
+    tie.close (tie.spec Inv-loop μ-loop
     loop-holds
-    step-requires
-    drawn-requires
-    add-put
-    put-requires
-    add-i
-    loop-less
+    (λ c κs. search needs) (λ c κs. search needs) (λ c. search needs) (λ c κs. search needs) (λ c. search needs)
+    (λ c. search needs)
     loop-again
     same-length
     returns)

@@ -16,43 +16,38 @@ Inv-loop s₀ n x i₀ s i = (i ≤ n) × (s ≡ filled s₀ i (x % 256))
 abbrev μ-loop : tie.MeasureT-loop
 μ-loop s₀ n x i₀ s i = n - i
 
+-- the loop's head, from the place after a byte is put, and the entry, from the head
+abbrev at-loop : tie.After-put Inv-loop μ-loop → tie.At-loop Inv-loop μ-loop
+at-loop c = c .before .before .before
+
+abbrev entry : tie.At-loop Inv-loop μ-loop → tie.Start Inv-loop μ-loop
+entry c = c .before .before
+
 loop-holds : tie.Need-loop-holds Inv-loop μ-loop
 unfolding filled
 loop-holds c = (omega arith, refl)
 
-put-requires : tie.Need-put-requires Inv-loop μ-loop
-put-requires c κs = search needs
-
-add-i : tie.Need-add-i Inv-loop μ-loop
-add-i c = search needs
-
-loop-less : tie.Need-loop-less Inv-loop μ-loop
-loop-less c = search needs
-
 loop-again : tie.Need-loop-again Inv-loop μ-loop
 loop-again c =
-    let at = c .before .before .before .before .before .loop in
-    (omega arith, c .before .before .put .ensures ∙ ap (λ (l : List ℕ). set l (at .i) (c .before .before .before .before .before .before .before .args .x % 256)) (at .inv .1) ∙ filled-more _ _ (at .i))
+    let last = c .before .before in
+    let a = entry (at-loop last) .args in
+    let at = at-loop last .loop in
+    (omega arith, last .put .ensures ∙ ap (λ (l : List ℕ). set l (at .i) (a .x % 256)) (at .inv .1) ∙ filled-more _ _ (at .i))
 
 same-length : tie.Need-same-length Inv-loop μ-loop
 same-length c = ap length (c .before .loop .inv .1) ∙ filled-long _ _ (c .before .loop .i)
 
 returns : tie.Need-returns Inv-loop μ-loop
 returns c =
-    let a = c .before .before .before .args in
+    let a = entry (c .before) .args in
     let e : c .before .loop .i ≡ a .n = omega arith in
     c .before .loop .inv .1 ∙ ap (λ (k : ℕ). filled (a .s .now) k (a .x % 256)) e
 
 pub fill-spec : {M : Type 1} → statement M
 fill-spec =
-    tie.close
-    (tie.spec
-    Inv-loop
-    μ-loop
+    tie.close (tie.spec Inv-loop μ-loop
     loop-holds
-    put-requires
-    add-i
-    loop-less
+    (λ c κs. search needs) (λ c. search needs) (λ c. search needs)
     loop-again
     same-length
     returns)

@@ -5,64 +5,52 @@ use borrow.Author.Needs.{needs}
 use Rattle.draws.proofs.code.draw_map.Statement.{statement}
 use Rattle.draws.proofs.code.draw_map.Tie as tie
 
-step-requires : tie.Need-step-requires
-step-requires c κs = search needs
+-- the second state, from the place where the way is drawn
+abbrev to-state : tie.After-drawn → tie.After-step2
+to-state c = c .before
 
-step-requires-2 : tie.Need-step-requires-2
-step-requires-2 c κs = search needs
+-- the second way, from the place after the bytes are filled, the third, from the place after the bytes are drawn, and
+-- that place, from the one after the byte that is 0 is put
+abbrev to-second : tie.After-fill → tie.Then2
+to-second c = c .before .before .before
 
-drawn-requires : tie.Need-drawn-requires
-drawn-requires c κs = search needs
+abbrev to-third : tie.After-draw-bytes → tie.Else2
+to-third c = c .before .before
+
+abbrev to-bytes : tie.After-put → tie.After-draw-bytes
+to-bytes c = c .before .before .before .before .before
 
 returns : tie.Need-returns
-returns c = let e = c .if1 .taken in map-same _ _ _ _ _ _ (c .before .before .before .step .ensures) (c .before .before .step2 .ensures) (c .before .drawn .ensures) (omega arith)
-
-drawn-requires-2 : tie.Need-drawn-requires-2
-drawn-requires-2 c κs = search needs
-
-fill-requires : tie.Need-fill-requires
-fill-requires c κs = search needs
-
-same-length : tie.Need-same-length
-same-length c = search needs
+returns c =
+    let d = c .before in
+    let e = c .if1 .taken in
+    map-same _ _ _ _ _ _ (to-state d .before .step .ensures) (to-state d .step2 .ensures) (d .drawn .ensures) (omega arith)
 
 returns-2 : tie.Need-returns-2
 returns-2 c =
-    let e = c .before .before .before .before .before .if2 .taken in
-    map-filled _ _ _ _ _ _ (c .before .before .before .before .before .before .before .before .before .step .ensures) (c .before .before .before .before .before .before .before .before .step2 .ensures) (c .before .before .before .before .before .before .before .drawn .ensures) (omega arith) _ (c .before .before .before .drawn2 .ensures) _ (c .before .before .fill .ensures)
-
-draw-bytes-requires : tie.Need-draw-bytes-requires
-draw-bytes-requires c κs = search needs
-
-drawn-requires-3 : tie.Need-drawn-requires-3
-drawn-requires-3 c κs = search needs
-
-put-requires : tie.Need-put-requires
-put-requires c κs = search needs
-
-same-length-2 : tie.Need-same-length-2
-same-length-2 c = search needs
+    let filled = c .before .before in
+    let d = to-second filled .before .before in
+    let e = to-second filled .if2 .taken in
+    map-filled _ _ _ _ _ _ (to-state d .before .step .ensures) (to-state d .step2 .ensures) (d .drawn .ensures) (omega arith)
+    _ (filled .before .drawn2 .ensures) _ (filled .fill .ensures)
 
 returns-3 : tie.Need-returns-3
 returns-3 c =
-    let k = c .before .before .before .before .before .before .before .before .before .before .if1 .left in
-    let l = c .before .before .before .before .before .before .before .before .before .if2 .left in
-    map-any _ _ _ _ _ _ (c .before .before .before .before .before .before .before .before .before .before .before .before .before .step .ensures) (c .before .before .before .before .before .before .before .before .before .before .before .before .step2 .ensures) (c .before .before .before .before .before .before .before .before .before .before .before .drawn .ensures) (omega arith) _ _ (c .before .before .before .before .before .before .before .draw-bytes .ensures) _ (c .before .before .before .drawn3 .ensures) _ (c .before .before .put .ensures)
+    let last = c .before .before in
+    let bytes = to-bytes last in
+    let way = to-third bytes in
+    let d = way .before .before in
+    let k = way .before .if1 .left in
+    let l = way .if2 .left in
+    map-any _ _ _ _ _ _ (to-state d .before .step .ensures) (to-state d .step2 .ensures) (d .drawn .ensures) (omega arith)
+    _ _ (bytes .draw-bytes .ensures) _ (last .before .drawn3 .ensures) _ (last .put .ensures)
 
 pub draw-map-spec : {M : Type 1} → statement M
 draw-map-spec =
-    tie.close
-    (tie.spec
-    step-requires
-    step-requires-2
-    drawn-requires
+    tie.close (tie.spec
+    (λ c κs. search needs) (λ c κs. search needs) (λ c κs. search needs)
     returns
-    drawn-requires-2
-    fill-requires
-    same-length
+    (λ c κs. search needs) (λ c κs. search needs) (λ c. search needs)
     returns-2
-    draw-bytes-requires
-    drawn-requires-3
-    put-requires
-    same-length-2
+    (λ c κs. search needs) (λ c κs. search needs) (λ c κs. search needs) (λ c. search needs)
     returns-3)

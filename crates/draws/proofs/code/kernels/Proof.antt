@@ -5,12 +5,6 @@ use borrow.Author.Needs.{needs}
 use Rattle.draws.proofs.code.kernels.Statement.{statement}
 use Rattle.draws.proofs.code.kernels.Tie as tie
 
-layers-requires : tie.Need-layers-requires
-layers-requires c κs = search needs
-
-places-requires : tie.Need-places-requires
-places-requires c κs = search needs
-
 mul-result : tie.Need-mul-result
 mul-result c = rw (c .before .layers .ensures, c .places .ensures) (let k = kernels-few (c .before .before .args .n) in omega arith)
 
@@ -18,4 +12,4 @@ returns : tie.Need-returns
 returns c = rw (c .before .layers .ensures, c .places .ensures)
 
 pub kernels-spec : {M : Type 1} → statement M
-kernels-spec = tie.close (tie.spec layers-requires places-requires mul-result returns)
+kernels-spec = tie.close (tie.spec (λ c κs. search needs) (λ c κs. search needs) mul-result returns)

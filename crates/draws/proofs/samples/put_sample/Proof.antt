@@ -12,15 +12,6 @@ use borrow.Author.Needs.{needs}
 use Rattle.draws.proofs.samples.put_sample.Statement.{statement}
 use Rattle.draws.proofs.samples.put_sample.Tie as tie
 
-signed-requires : tie.Need-signed-requires
-signed-requires c κs = search needs
-
-slice-set-from-s : tie.Need-slice-set-from-s
-slice-set-from-s c = search needs
-
-same-length : tie.Need-same-length
-same-length c = search needs
-
 returns : tie.Need-returns
 returns c =
     let a = c .before .before .args in
@@ -31,4 +22,4 @@ returns-2 c = let a = c .before .args in sym (set-out (a .s .now) (a .at) _ (c .
 
 pub put-sample-spec : {M : Type 1} → statement M
 put-sample-spec =
-    tie.close (tie.spec signed-requires slice-set-from-s same-length returns returns-2)
+    tie.close (tie.spec (λ c κs. search needs) (λ c. search needs) (λ c. search needs) returns returns-2)

@@ -26,20 +26,11 @@ fits n l = subst (SFits w16) (sym (less n l)) (record { sfits = omega arith })
 fits-byte : (n : ℕ) → n < 256 → 128 ≤ n → SFits w8 (toZ w16 (ofZ w16 (toZ w16 n -ℤ pos 256)))
 fits-byte n l h = subst (SFits w8) (sym (toZ-ofZ w16 (toZ w16 n -ℤ pos 256) (fits n l) ∙ less n l)) (record { sfits = omega arith })
 
-cast-result : tie.Need-cast-result
-cast-result c = search needs
-
-cast-result-2 : tie.Need-cast-result-2
-cast-result-2 c = search needs
-
 sub-result : tie.Need-sub-result
 sub-result c = fits (c .before .args .bits % 256) (omega arith)
 
 cast-result-3 : tie.Need-cast-result-3
 cast-result-3 c = fits-byte (c .before .args .bits % 256) (omega arith) (c .if1 .left)
-
-returns : tie.Need-returns
-returns c = search needs
 
 returns-2 : tie.Need-returns-2
 returns-2 c =
@@ -52,4 +43,4 @@ returns-2 c =
 
 pub signed-spec : {M : Type 1} → statement M
 signed-spec =
-    tie.close (tie.spec cast-result cast-result-2 sub-result cast-result-3 returns returns-2)
+    tie.close (tie.spec (λ c. search needs) (λ c. search needs) sub-result cast-result-3 (λ c. search needs) returns-2)

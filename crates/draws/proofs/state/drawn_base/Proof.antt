@@ -7,61 +7,48 @@ use borrow.Author.Needs.{needs}
 use Rattle.draws.proofs.state.drawn_base.Statement.{statement}
 use Rattle.draws.proofs.state.drawn_base.Tie as tie
 
-step-requires : tie.Need-step-requires
-step-requires c κs = search needs
+-- the first three steps, from the place after the fourth
+abbrev third : tie.After-step4 → tie.After-step3
+third c = c .before
 
-step-requires-2 : tie.Need-step-requires-2
-step-requires-2 c κs = search needs
+abbrev second : tie.After-step4 → tie.After-step2
+second c = third c .before
 
-step-requires-3 : tie.Need-step-requires-3
-step-requires-3 c κs = search needs
-
-mul-high : tie.Need-mul-high
-mul-high c = search needs
+abbrev first : tie.After-step4 → tie.After-step
+first c = second c .before
 
 add-high : tie.Need-add-high
 add-high c = omega (arith, c .before .step2 .ensures, next-small (c .before .before .step .result))
 
-mul-low : tie.Need-mul-low
-mul-low c = search needs
-
-step-requires-4 : tie.Need-step-requires-4
-step-requires-4 c κs = search needs
-
 add-low : tie.Need-add-low
-add-low c = omega (arith, c .step4 .ensures, next-small (c .before .step3 .result))
+add-low c = omega (arith, c .step4 .ensures, next-small (third c .step3 .result))
 
 mul-result : tie.Need-mul-result
-mul-result c = omega (arith, c .before .before .before .step .ensures, c .before .before .step2 .ensures, next-small (c .before .before .before .before .args .state), next-small (c .before .before .before .step .result))
+mul-result c = omega (arith, first c .step .ensures, second c .step2 .ensures, next-small (first c .before .args .state), next-small (first c .step .result))
 
 add-result : tie.Need-add-result
 add-result c =
-    let l₁ = rw (sym (c .before .before .before .step .ensures)) at (next-small (c .before .before .before .before .args .state)) in
-    let l₂ = rw (sym (c .before .before .step2 .ensures)) at (next-small (c .before .before .before .step .result)) in
-    let l₃ = rw (sym (c .before .step3 .ensures)) at (next-small (c .before .before .step2 .result)) in
-    let l₄ = rw (sym (c .step4 .ensures)) at (next-small (c .before .step3 .result)) in
+    let l₁ = rw (sym (first c .step .ensures)) at (next-small (first c .before .args .state)) in
+    let l₂ = rw (sym (second c .step2 .ensures)) at (next-small (first c .step .result)) in
+    let l₃ = rw (sym (third c .step3 .ensures)) at (next-small (second c .step2 .result)) in
+    let l₄ = rw (sym (c .step4 .ensures)) at (next-small (third c .step3 .result)) in
     omega arith
 
 returns : tie.Need-returns
 unfolding baseFrom upper stateAfter
 returns c =
-    let e₁ = c .before .before .before .step .ensures in
-    let e₂ = c .before .before .step2 .ensures ∙ ap next e₁ in
-    let e₃ = c .before .step3 .ensures ∙ ap next e₂ in
+    let e₁ = first c .step .ensures in
+    let e₂ = second c .step2 .ensures ∙ ap next e₁ in
+    let e₃ = third c .step3 .ensures ∙ ap next e₂ in
     let e₄ = c .step4 .ensures ∙ ap next e₃ in
     omega (arith, e₁, e₂, e₃, e₄)
 
 pub drawn-base-spec : {M : Type 1} → statement M
 drawn-base-spec =
-    tie.close
-    (tie.spec
-    step-requires
-    step-requires-2
-    step-requires-3
-    mul-high
+    tie.close (tie.spec
+    (λ c κs. search needs) (λ c κs. search needs) (λ c κs. search needs) (λ c. search needs)
     add-high
-    mul-low
-    step-requires-4
+    (λ c. search needs) (λ c κs. search needs)
     add-low
     mul-result
     add-result

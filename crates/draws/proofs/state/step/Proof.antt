@@ -5,15 +5,9 @@ use borrow.Author.Needs.{needs}
 use Rattle.draws.proofs.state.step.Statement.{statement}
 use Rattle.draws.proofs.state.step.Tie as tie
 
-mul-result : tie.Need-mul-result
-mul-result c = search needs
-
-add-result : tie.Need-add-result
-add-result c = search needs
-
 returns : tie.Need-returns
 unfolding next
 returns c = refl
 
 pub step-spec : {M : Type 1} → statement M
-step-spec = tie.close (tie.spec mul-result add-result returns)
+step-spec = tie.close (tie.spec (λ c. search needs) (λ c. search needs) returns)

@@ -5,15 +5,9 @@ use borrow.Author.Needs.{needs}
 use Rattle.draws.proofs.sums.checksum_with.Statement.{statement}
 use Rattle.draws.proofs.sums.checksum_with.Tie as tie
 
-mul-result : tie.Need-mul-result
-mul-result c = search needs
-
-add-result : tie.Need-add-result
-add-result c = search needs
-
 returns : tie.Need-returns
 unfolding sumWith
 returns c = refl
 
 pub checksum-with-spec : {M : Type 1} → statement M
-checksum-with-spec = tie.close (tie.spec mul-result add-result returns)
+checksum-with-spec = tie.close (tie.spec (λ c. search needs) (λ c. search needs) returns)

@@ -12,8 +12,8 @@ use Rattle.files.proofs.decoding.decode_with_parts.Tie as tie
 -- the map has at most 256 places
 few : (s : tie.Start) → length (s .args .map .now) ≤ 256
 few s =
-    let long = s .pre .taken .given .code .map-long in
-    let size = pow-mono {i = s .args .n} {j = 8} (s .pre .taken .given .code .layers .most) in
+    let long = s .pre .accepted .given .is-code .map-long in
+    let size = pow-mono {i = s .args .n} {j = 8} (s .pre .accepted .given .is-code .layers .most) in
     omega arith
 
 -- so the buffers have room for the parts
@@ -40,12 +40,6 @@ report-part s = length-take-le (64 * length (s .args .map .now)) (s .args .repor
 abbrev start : tie.After-slice-known3 → tie.Start
 start c = c .before .before .before .before .before .before
 
-mul-work-size : tie.Need-mul-work-size
-mul-work-size c = search needs
-
-mul-report-size : tie.Need-mul-report-size
-mul-report-size c = search needs
-
 slice-relend-prefix-decode-and-print : tie.Need-slice-relend-prefix-decode-and-print
 slice-relend-prefix-decode-and-print c = work-fits (start c)
 
@@ -67,32 +61,18 @@ slice-aggregate-decode-and-print-3 c = sym (report-part (start (c .before .befor
 decode-and-print-requires : tie.Need-decode-and-print-requires
 decode-and-print-requires c κs =
     let s = start (c .before .before .before) in
-    let long = s .pre .taken .given .code .map-long in
+    let long = s .pre .accepted .given .is-code .map-long in
     record {
-      taken = s .pre .taken;
+      accepted = s .pre .accepted;
       work-long = work-part s ∙ ap (λ (k : ℕ). 65 * k) long;
       symbols-long = symbols-part s ∙ long;
       report-long = report-part s ∙ ap (λ (k : ℕ). 64 * k) long;
     }
 
-same-length : tie.Need-same-length
-same-length c = search needs
-
-same-length-2 : tie.Need-same-length-2
-same-length-2 c = search needs
-
-same-length-3 : tie.Need-same-length-3
-same-length-3 c = search needs
-
-returns : tie.Need-returns
-returns c = search needs
-
 pub decode-with-parts-spec : {M : Type 1} → statement M
 decode-with-parts-spec =
-    tie.close
-    (tie.spec
-    mul-work-size
-    mul-report-size
+    tie.close (tie.spec
+    (λ c. search needs) (λ c. search needs)
     slice-relend-prefix-decode-and-print
     slice-aggregate-decode-and-print
     slice-relend-prefix-decode-and-print-2
@@ -100,7 +80,4 @@ decode-with-parts-spec =
     slice-relend-prefix-decode-and-print-3
     slice-aggregate-decode-and-print-3
     decode-and-print-requires
-    same-length
-    same-length-2
-    same-length-3
-    returns)
+    (λ c. search needs) (λ c. search needs) (λ c. search needs) (λ c. search needs))

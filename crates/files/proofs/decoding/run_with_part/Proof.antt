@@ -9,9 +9,13 @@ use borrow.Author.Needs.{needs}
 use Rattle.files.proofs.decoding.run_with_part.Statement.{statement}
 use Rattle.files.proofs.decoding.run_with_part.Tie as tie
 
+-- the entry, from the place where the slices are known
+abbrev entry : tie.After-slice-known → tie.Start
+entry c = c .before .before .before
+
 -- the map has at most 256 places
 few : (s : tie.Start) → length (s .args .map .now) ≤ 256
-few s = let long = s .pre .code .map-long in let size = pow-mono {i = s .args .n} {j = 8} (s .pre .code .layers .most) in omega arith
+few s = let long = s .pre .is-code .map-long in let size = pow-mono {i = s .args .n} {j = 8} (s .pre .is-code .layers .most) in omega arith
 
 -- so the buffer has room for the frame
 fits : (s : tie.Start) → 64 * length (s .args .map .now) ≤ length (s .args .frame .now)
@@ -22,32 +26,24 @@ part : (s : tie.Start) → length (take (64 * length (s .args .map .now)) (s .ar
 part s = length-take-le (64 * length (s .args .map .now)) (s .args .frame .now) (fits s)
 
 mul-frame-size : tie.Need-mul-frame-size
-mul-frame-size c = let l = few (c .before .before .before) in search needs
+mul-frame-size c = let l = few (entry c) in search needs
 
 slice-relend-prefix-read-and-decode : tie.Need-slice-relend-prefix-read-and-decode
-slice-relend-prefix-read-and-decode c = fits (c .before .before .before)
+slice-relend-prefix-read-and-decode c = fits (entry c)
 
 slice-aggregate-read-and-decode : tie.Need-slice-aggregate-read-and-decode
-slice-aggregate-read-and-decode c = sym (part (c .before .before .before .before))
+slice-aggregate-read-and-decode c = sym (part (entry (c .before)))
 
 read-and-decode-requires : tie.Need-read-and-decode-requires
 read-and-decode-requires c κs =
-    let s = c .before .before .before .before in
-    record { code = s .pre .code; frame-long = part s ∙ ap (λ (k : ℕ). 64 * k) (s .pre .code .map-long) }
-
-same-length : tie.Need-same-length
-same-length c = search needs
-
-returns : tie.Need-returns
-returns c = search needs
+    let s = entry (c .before) in
+    record { is-code = s .pre .is-code; frame-long = part s ∙ ap (λ (k : ℕ). 64 * k) (s .pre .is-code .map-long) }
 
 pub run-with-part-spec : {M : Type 1} → statement M
 run-with-part-spec =
-    tie.close
-    (tie.spec
+    tie.close (tie.spec
     mul-frame-size
     slice-relend-prefix-read-and-decode
     slice-aggregate-read-and-decode
     read-and-decode-requires
-    same-length
-    returns)
+    (λ c. search needs) (λ c. search needs))

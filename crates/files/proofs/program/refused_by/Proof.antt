@@ -6,12 +6,6 @@ use borrow.Author.Needs.{needs}
 use Rattle.files.proofs.program.refused_by.Statement.{statement}
 use Rattle.files.proofs.program.refused_by.Tie as tie
 
-enum-told : tie.Need-enum-told
-enum-told c = search needs
-
-enum-known-answer : tie.Need-enum-known-answer
-enum-known-answer c = search needs
-
 returns : tie.Need-returns
 unfolding returned
 returns c = sym (ap (λ (a : Answer). returned a .number) (c .enum-told .given .1))
@@ -21,4 +15,4 @@ unfolding returned
 returns-2 c = sym (ap (λ (a : Answer). returned a .number) (c .before .answer .given .1))
 
 pub refused-by-spec : {M : Type 1} → statement M
-refused-by-spec = tie.close (tie.spec enum-told enum-known-answer returns returns-2)
+refused-by-spec = tie.close (tie.spec (λ c. search needs) (λ c. search needs) returns returns-2)

@@ -6,12 +6,6 @@ use borrow.Author.Needs.{needs}
 use Rattle.listing.proofs.held.held_for.Statement.{statement}
 use Rattle.listing.proofs.held.held_for.Tie as tie
 
-mul-result : tie.Need-mul-result
-mul-result c = search needs
-
-shared-slice-read-result : tie.Need-shared-slice-read-result
-shared-slice-read-result c = search needs
-
 returns : tie.Need-returns
 unfolding heldFor
 returns c = refl
@@ -21,4 +15,4 @@ unfolding heldFor
 returns-2 c = sym (List·getD-eq-default (c .before .args .llrs .now) 0 (c .if1 .left))
 
 pub held-for-spec : {M : Type 1} → statement M
-held-for-spec = tie.close (tie.spec mul-result shared-slice-read-result returns returns-2)
+held-for-spec = tie.close (tie.spec (λ c. search needs) (λ c. search needs) returns returns-2)

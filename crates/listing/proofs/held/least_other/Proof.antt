@@ -16,34 +16,23 @@ Inv-loop symbol llrs least₀ j₀ least j = (1 ≤ j) × (j ≤ 63) × (least �
 abbrev μ-loop : tie.MeasureT-loop
 μ-loop symbol llrs least₀ j₀ least j = 63 - j
 
-other-value-requires : tie.Need-other-value-requires Inv-loop μ-loop
-other-value-requires c κs = search needs
+-- the entry, from the place where the first penalty is known, and the loop's head, from the place where a turn's is
+abbrev entry : tie.After-held-for Inv-loop μ-loop → tie.Start Inv-loop μ-loop
+entry c = c .before .before .before
 
-held-for-requires : tie.Need-held-for-requires Inv-loop μ-loop
-held-for-requires c κs = search needs
+abbrev at-loop : tie.After-held-for2 Inv-loop μ-loop → tie.At-loop Inv-loop μ-loop
+at-loop c = c .before .before .before
 
 loop-holds : tie.Need-loop-holds Inv-loop μ-loop
 unfolding leastTo
 loop-holds c =
-    let start = c .before .before .before in
+    let start = entry c in
     (omega arith, omega arith, c .held-for .ensures ∙ ap (λ (v : ℕ). heldFor v (start .args .llrs .now)) (c .before .other-value .ensures))
-
-other-value-requires-2 : tie.Need-other-value-requires-2 Inv-loop μ-loop
-other-value-requires-2 c κs = search needs
-
-held-for-requires-2 : tie.Need-held-for-requires-2 Inv-loop μ-loop
-held-for-requires-2 c κs = search needs
-
-add-j : tie.Need-add-j Inv-loop μ-loop
-add-j c = search needs
-
-loop-less : tie.Need-loop-less Inv-loop μ-loop
-loop-less c = search needs
 
 loop-again : tie.Need-loop-again Inv-loop μ-loop
 loop-again c =
-    let at = c .before .before .before .before .loop in
-    let start = c .before .before .before .before .before .before .before .before in
+    let at = at-loop (c .before) .loop in
+    let start = entry (at-loop (c .before) .before) in
     let held : ℕ → ℕ = λ i. heldFor (otherValue (start .args .symbol) i) (start .args .llrs .now) in
     let is = c .before .held-for2 .ensures ∙ ap (λ (v : ℕ). heldFor v (start .args .llrs .now)) (c .before .before .other-value2 .ensures) in
     let m = least-more (at .j) (at .least) held (at .inv .0) (at .inv .2) in
@@ -56,22 +45,15 @@ returns : tie.Need-returns Inv-loop μ-loop
 unfolding leastOther
 returns c =
     let at = c .before .loop in
-    let start = c .before .before .before .before .before in
+    let start = entry (c .before .before) in
     let e : at .j - 1 ≡ 62 = omega arith in
     at .inv .2 ∙ ap (λ (x : ℕ). leastTo x (λ i. heldFor (otherValue (start .args .symbol) i) (start .args .llrs .now))) e
 
 pub least-other-spec : {M : Type 1} → statement M
 least-other-spec =
-    tie.close
-    (tie.spec
-    Inv-loop
-    μ-loop
-    other-value-requires
-    held-for-requires
+    tie.close (tie.spec Inv-loop μ-loop
+    (λ c κs. search needs) (λ c κs. search needs)
     loop-holds
-    other-value-requires-2
-    held-for-requires-2
-    add-j
-    loop-less
+    (λ c κs. search needs) (λ c κs. search needs) (λ c. search needs) (λ c. search needs)
     loop-again
     returns)

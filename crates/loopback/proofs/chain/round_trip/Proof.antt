@@ -1,96 +1,77 @@
 -- `round_trip` meets its contract: what each call leaves goes into the next.
 use borrow.Author.Needs.{needs}
-use Rattle.loopback.proofs.TripLaws.{promise-refused, accepted, sending, reading, promise-accepted}
+use Rattle.link.specs.Noiseless.{Transmission, Reception, transmissionOf, receptionOf}
+use Rattle.loopback.specs.Refusals.{TripLent, TripInput, tripLentOf}
+use Rattle.loopback.proofs.TripLaws.{promise-refused, not-refused, sending, reading, promise-accepted}
 use Rattle.loopback.proofs.chain.round_trip.Statement.{statement}
 use Rattle.loopback.proofs.chain.round_trip.Tie as tie
 
-trip-refusal-requires : tie.Need-trip-refusal-requires
-trip-refusal-requires c κs = search needs
+-- the entry, from the place after the test for a refusal
+abbrev entry : tie.Else1 → tie.Start
+entry c = c .before .before .before .before .before .before .before .before .before .before .before .before .before .before .before .before
 
-same-length : tie.Need-same-length
-same-length c = search needs
+-- from the places after `send`, `demap` and `decode` to the ones before them
+abbrev to-fork : tie.After-send → tie.Else1
+to-fork c = c .before .before
 
-same-length-2 : tie.Need-same-length-2
-same-length-2 c = search needs
+abbrev to-send : tie.After-demap → tie.After-send
+to-send c = c .before .before .before .before
 
-same-length-3 : tie.Need-same-length-3
-same-length-3 c = search needs
+abbrev to-demap : tie.After-decode → tie.After-demap
+to-demap c = c .before .before .before .before .before .before .before
 
-same-length-4 : tie.Need-same-length-4
-same-length-4 c = search needs
+-- and the place after `decode`, from the one where `read_message` is called
+abbrev to-decode : tie.After-read-message-arg2 → tie.After-decode
+to-decode c = c .before .before .before .before .before .before .before .before
 
-same-length-5 : tie.Need-same-length-5
-same-length-5 c = search needs
+-- what the call was given: what is sent, how it is received, and the buffers
+abbrev sent : tie.Start → Transmission
+sent s = transmissionOf (s .args .n) (s .args .map .now) (s .args .coefs .now) (s .args .message .now) (s .args .base) (s .args .amplitude)
 
-same-length-6 : tie.Need-same-length-6
-same-length-6 c = search needs
+abbrev received : tie.Start → Reception
+received s = receptionOf (s .args .top) (s .args .bottom) (s .args .qc) (s .args .qm)
 
-returns : tie.Need-returns
-returns c = promise-refused (c .before .trip-refusal .ensures) (c .if1 .taken)
+abbrev lent : tie.Start → TripLent
+lent s = tripLentOf (s .args .samples .now) (s .args .frame .now) (s .args .work .now) (s .args .symbols .now) (s .args .report .now) (s .args .decoded .now)
 
-send-requires : tie.Need-send-requires
-send-requires c κs = sending (accepted (c .before .before .trip-refusal .ensures) (c .before .if1 .left))
-
-demap-requires : tie.Need-demap-requires
-demap-requires c κs = search needs
-
-decode-requires : tie.Need-decode-requires
-decode-requires c κs = search needs
-
-read-message-requires : tie.Need-read-message-requires
-read-message-requires c κs =
-    let decode-call = c .before .before .before .before .before .before .before .before in
-    let fork = decode-call .before .before .before .before .before .before .before .before .before .before .before .before .before in
-    reading (accepted (fork .before .trip-refusal .ensures) (fork .if1 .left)) (decode-call .decode .kept .1 .1 .1 .1 .1 .1 .1 .0)
-
-same-length-7 : tie.Need-same-length-7
-same-length-7 c = search needs
-
-same-length-8 : tie.Need-same-length-8
-same-length-8 c = search needs
-
-same-length-9 : tie.Need-same-length-9
-same-length-9 c = search needs
-
-same-length-10 : tie.Need-same-length-10
-same-length-10 c = search needs
-
-same-length-11 : tie.Need-same-length-11
-same-length-11 c = search needs
-
-same-length-12 : tie.Need-same-length-12
-same-length-12 c = search needs
+-- it is accepted
+input : (c : tie.Else1) → TripInput (sent (entry c)) (received (entry c)) (lent (entry c))
+input c = not-refused (sent (entry c)) (received (entry c)) (lent (entry c)) (c .before .trip-refusal .ensures) (c .if1 .left)
 
 returns-2 : tie.Need-returns-2
 returns-2 c =
-    let decode-call = c .before .before .before .before .before .before .before .before .before .before .before in
-    let demap-call = decode-call .before .before .before .before .before .before .before in
-    let send-call = demap-call .before .before .before .before in
-    let fork = send-call .before .before in
-    let t = accepted (fork .before .trip-refusal .ensures) (fork .if1 .left) in
-    promise-accepted t (send-call .send .ensures) (send-call .send .kept .1 .1 .1 .1 .1 .1 .0) (demap-call .demap .ensures)
-    (decode-call .decode .ensures) (c .before .before .read-message .ensures)
+    let read = c .before .before in
+    let decoded = to-decode (read .before) in
+    let demapped = to-demap decoded in
+    let send-call = to-send demapped in
+    let e = to-fork send-call in
+    let s = entry e in
+    promise-accepted (sent s) (received s) (lent s) (input e)
+    (send-call .send .ensures) (send-call .send .kept .1 .1 .1 .1 .1 .1 .0) (demapped .demap .ensures) (decoded .decode .ensures) (read .read-message .ensures)
 
 pub round-trip-spec : {M : Type 1} → statement M
 round-trip-spec =
     tie.close
     (tie.spec
-    trip-refusal-requires
-    same-length
-    same-length-2
-    same-length-3
-    same-length-4
-    same-length-5
-    same-length-6
-    returns
-    send-requires
-    demap-requires
-    decode-requires
-    read-message-requires
-    same-length-7
-    same-length-8
-    same-length-9
-    same-length-10
-    same-length-11
-    same-length-12
+    (λ c κs. tt)
+    (λ c. search needs)
+    (λ c. search needs)
+    (λ c. search needs)
+    (λ c. search needs)
+    (λ c. search needs)
+    (λ c. search needs)
+    (λ c. promise-refused _ _ _ (c .before .trip-refusal .ensures) (c .if1 .taken))
+    (λ c κs. let e = c .before in sending (sent (entry e)) (received (entry e)) (lent (entry e)) (input e))
+    (λ c κs. tt)
+    (λ c κs. tt)
+    (λ c κs.
+    let decoded = to-decode c in
+    let e = to-fork (to-send (to-demap decoded)) in
+    reading (sent (entry e)) (received (entry e)) (lent (entry e)) (input e) (decoded .decode .kept .1 .1 .1 .1 .1 .1 .1 .0))
+    (λ c. search needs)
+    (λ c. search needs)
+    (λ c. search needs)
+    (λ c. search needs)
+    (λ c. search needs)
+    (λ c. search needs)
     returns-2)

@@ -4,6 +4,16 @@ use Rattle.loopback.proofs.SendLaws.{sent}
 use Rattle.loopback.proofs.chain.send_with.Statement.{statement}
 use Rattle.loopback.proofs.chain.send_with.Tie as tie
 
+-- the entry, from the place after `encode`, and from the places after `spread` and `write_samples` to the ones before them
+abbrev entry : tie.After-encode → tie.Start
+entry c = c .before .before .before .before .before .before .before
+
+abbrev to-encode : tie.After-spread → tie.After-encode
+to-encode c = c .before .before .before .before .before
+
+abbrev to-spread : tie.After-write-samples → tie.After-spread
+to-spread c = c .before .before .before .before .before
+
 encode-requires : tie.Need-encode-requires
 encode-requires c κs = search needs
 
@@ -24,10 +34,11 @@ same-length-3 c = search needs
 
 returns : tie.Need-returns
 returns c =
-    let spread-call = c .before .before .before .before .before .before in
-    let encode-call = spread-call .before .before .before .before .before in
-    let start = encode-call .before .before .before .before .before .before .before in
-    sent (start .pre) (encode-call .encode .ensures) (spread-call .spread .ensures) (c .before .write-samples .last .1 .1 .0) (c .before .write-samples .ensures)
+    let samples-call = c .before in
+    let spread-call = to-spread samples-call in
+    let encode-call = to-encode spread-call in
+    sent (entry encode-call .pre) (encode-call .encode .ensures) (spread-call .spread .ensures)
+    (samples-call .write-samples .last .1 .1 .0) (samples-call .write-samples .ensures)
 
 pub send-with-spec : {M : Type 1} → statement M
 send-with-spec =

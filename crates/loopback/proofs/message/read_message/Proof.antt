@@ -1,5 +1,5 @@
 -- `read_message` meets its contract: what is read before place j, and the message from j on, are the whole message.
-use mathlib.Core.Path.{refl, sym, ap, _∙_}
+use mathlib.Core.Path.{_≡_, refl, sym, ap, _∙_}
 use mathlib.Core.Logic.{⊎-elim}
 use mathlib.Core.List.{List, _++_, append-nil}
 use Prim.Native.Nat.{ℕ, _-_, _<_}
@@ -8,8 +8,7 @@ use borrow.Author.Needs.{needs}
 use lib.ListN.{length, getD, take, drop, drop-of-length-le}
 use lib.Seq.{take-all}
 use Rattle.polar.specs.Message.{messageOf}
-use Rattle.polar_code.specs.Code.{messagePlaces}
-use Rattle.polar_code.proofs.MapLaws.{kind-message, kind-frozen}
+use Rattle.polar_code.specs.Code.{kindOf, messagePlaces}
 use Rattle.loopback.proofs.ReadLaws.{ReadTo, as-read, room-left, read-more, read-past}
 use Rattle.loopback.proofs.message.read_message.Statement.{statement}
 use Rattle.loopback.proofs.message.read_message.Tie as tie
@@ -20,51 +19,42 @@ Inv-loop map word message₀ next₀ j₀ message next j = ReadTo map word messa
 abbrev μ-loop : tie.MeasureT-loop
 μ-loop map word message₀ next₀ j₀ message next j = length map - j
 
-loop-holds : tie.Need-loop-holds Inv-loop μ-loop
-loop-holds c = record { within = omega arith; long = refl; left = let e = c .pre .room in omega arith; is = refl }
+-- the place where the loop's test is reached, from the one where the kind is known, and from there the entry
+abbrev at-loop : tie.After-kind-of Inv-loop μ-loop → tie.At-loop Inv-loop μ-loop
+at-loop c = c .before .before .before
 
-shared-slice-read-if1 : tie.Need-shared-slice-read-if1 Inv-loop μ-loop
-shared-slice-read-if1 c = search needs
+abbrev entry : tie.At-loop Inv-loop μ-loop → tie.Start Inv-loop μ-loop
+entry c = c .before .before .before .before
+
+loop-holds : tie.Need-loop-holds Inv-loop μ-loop
+loop-holds c = record { within = omega arith; long = refl; left = let e = c .before .before .before .pre .room in omega arith; is = refl }
+
+-- the kind of the place is the one found
+kind-is : (c : tie.After-kind-of Inv-loop μ-loop) → c .kind-of .result ≡ kindOf (getD (entry (at-loop c) .args .map .now) (at-loop c .loop .j) 0)
+kind-is c = c .kind-of .ensures
 
 -- in a message place there is room left
-room : (c : tie.After-shared-slice-known2 Inv-loop μ-loop) → c .before .before .before .before .loop .next < length (c .before .before .before .before .loop .message)
+room : (c : tie.After-enum-told Inv-loop μ-loop) → at-loop (c .before .before) .loop .next < length (at-loop (c .before .before) .loop .message)
 room c =
-    let a = c .before .before .before .before .before .args in
-    let at = c .before .before .before .before .loop in
-    room-left (a .map .now) (a .word .now) (a .message .now) (at .message) (at .next) (at .j) (search needs) (at .inv) (kind-message _ (c .before .if1 .taken))
-
-shared-slice-read-message : tie.Need-shared-slice-read-message Inv-loop μ-loop
-shared-slice-read-message c = let e = c .before .before .before .before .before .pre .places in search needs
-
-slice-write-message : tie.Need-slice-write-message Inv-loop μ-loop
-slice-write-message c = room c
-
-add-next : tie.Need-add-next Inv-loop μ-loop
-add-next c = let l = room c in search needs
-
-add-j : tie.Need-add-j Inv-loop μ-loop
-add-j c = search needs
-
-loop-less : tie.Need-loop-less Inv-loop μ-loop
-loop-less c = search needs
+    let k = c .before .before in
+    let a = entry (at-loop k) .args in
+    let at = at-loop k .loop in
+    room-left (a .map .now) (a .word .now) (a .message .now) (at .message) (at .next) (at .j) (search needs) (at .inv) (sym (kind-is k) ∙ c .enum-told .given .1)
 
 loop-again : tie.Need-loop-again Inv-loop μ-loop
 loop-again c =
-    let a = c .before .before .before .before .args in
-    let at = c .before .before .before .loop in
-    let byte = getD (a .map .now) (at .j) 0 in
+    let a = entry (at-loop (c .before)) .args in
+    let at = at-loop (c .before) .loop in
+    let kind = sym (kind-is (c .before)) in
     ⊎-elim
-    (λ w. as-read (w .2) (w .3) (read-more (a .map .now) (a .word .now) (a .message .now) (at .message) (at .next) (at .j) (search needs) (at .inv) (kind-message byte (w .0 .taken))))
-    (λ w. as-read (w .1) (w .2) (read-past (a .map .now) (a .word .now) (a .message .now) (at .message) (at .next) (at .j) (search needs) (at .inv) (kind-frozen byte (w .0 .left))))
-    (c .if1 .came)
-
-same-length : tie.Need-same-length Inv-loop μ-loop
-same-length c = search needs
+    (λ w. as-read (w .3) (w .4) (read-more (a .map .now) (a .word .now) (a .message .now) (at .message) (at .next) (at .j) (search needs) (at .inv) (kind ∙ w .1 .given .1)))
+    (λ w. as-read (w .2) (w .3) (read-past (a .map .now) (a .word .now) (a .message .now) (at .message) (at .next) (at .j) (search needs) (at .inv) (kind ∙ w .1 .given .1)))
+    (c .match .came)
 
 returns : tie.Need-returns Inv-loop μ-loop
 unfolding messageOf messagePlaces
 returns c =
-    let a = c .before .before .args in
+    let a = entry (c .before) .args in
     let at = c .before .loop in
     let end = drop-of-length-le (a .map .now) (c .loop-test .left) in
     let all = ap messagePlaces end in
@@ -82,12 +72,15 @@ read-message-spec =
     Inv-loop
     μ-loop
     loop-holds
-    shared-slice-read-if1
-    shared-slice-read-message
-    slice-write-message
-    add-next
-    add-j
-    loop-less
+    (λ c. search needs)
+    (λ c κs. tt)
+    (λ c. search needs)
+    (λ c. let e = entry (at-loop (c .before .before .before)) .pre .places in search needs)
+    (λ c. room (c .before))
+    (λ c. let l = room (c .before) in search needs)
+    (λ c. search needs)
+    (λ c. search needs)
+    (λ c. search needs)
     loop-again
-    same-length
+    (λ c. search needs)
     returns)

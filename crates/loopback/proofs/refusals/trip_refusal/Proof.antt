@@ -1,23 +1,15 @@
--- `trip_refusal` meets its contract: the refusal by the first part of the table, and where there is none that by the second.
+-- `trip_refusal` meets its contract: the refusal by the first part of the table, and where there is none that by the
+-- second.
 use mathlib.Core.Path.{sym, _∙_}
-use borrow.Author.Needs.{needs}
-use Rattle.loopback.proofs.RefusalLaws.{size-refused, size-taken}
+use Rattle.loopback.proofs.RefusalLaws.{size-refused, size-accepted}
 use Rattle.loopback.proofs.refusals.trip_refusal.Statement.{statement}
 use Rattle.loopback.proofs.refusals.trip_refusal.Tie as tie
 
-size-refusal-requires : tie.Need-size-refusal-requires
-size-refusal-requires c κs = search needs
-
-returns : tie.Need-returns
-returns c = size-refused _ _ _ _ _ _ _ _ _ _ _ _ _ _ _ _ _ (c .before .size-refusal .ensures) (c .if1 .taken)
-
-content-refusal-requires : tie.Need-content-refusal-requires
-content-refusal-requires c κs = search needs
-
-returns-2 : tie.Need-returns-2
-returns-2 c =
-    size-taken _ _ _ _ _ _ _ _ _ _ _ _ _ _ _ _ _ (sym (c .before .before .size-refusal .ensures) ∙ c .before .if1 .left) (c .content-refusal .ensures)
-
 pub trip-refusal-spec : {M : Type 1} → statement M
 trip-refusal-spec =
-    tie.close (tie.spec size-refusal-requires returns content-refusal-requires returns-2)
+    tie.close
+    (tie.spec
+    (λ c κs. tt)
+    (λ c. size-refused _ _ _ _ (c .before .size-refusal .ensures) (c .if1 .taken))
+    (λ c κs. tt)
+    (λ c. size-accepted _ _ _ _ (sym (c .before .before .size-refusal .ensures) ∙ c .before .if1 .left) (c .content-refusal .ensures)))

@@ -10,37 +10,8 @@ Inv-loop state₀ i₀ state i = i ≤ 200
 abbrev μ-loop : tie.MeasureT-loop
 μ-loop state₀ i₀ state i = 200 - i
 
-loop-holds : tie.Need-loop-holds Inv-loop μ-loop
-loop-holds c = search needs
-
-spread-case-requires : tie.Need-spread-case-requires Inv-loop μ-loop
-spread-case-requires c κs = search needs
-
-demap-case-requires : tie.Need-demap-case-requires Inv-loop μ-loop
-demap-case-requires c κs = search needs
-
-add-i : tie.Need-add-i Inv-loop μ-loop
-add-i c = search needs
-
-loop-less : tie.Need-loop-less Inv-loop μ-loop
-loop-less c = search needs
-
-loop-again : tie.Need-loop-again Inv-loop μ-loop
-loop-again c = search needs
-
-returns : tie.Need-returns Inv-loop μ-loop
-returns c = search needs
-
 pub run-cases-spec : {M : Type 1} → statement M
 run-cases-spec =
-    tie.close
-    (tie.spec
-    Inv-loop
-    μ-loop
-    loop-holds
-    spread-case-requires
-    demap-case-requires
-    add-i
-    loop-less
-    loop-again
-    returns)
+    tie.close (tie.spec Inv-loop μ-loop
+    (λ c. search needs) (λ c κs. search needs) (λ c κs. search needs) (λ c. search needs) (λ c. search needs)
+    (λ c. search needs) (λ c. search needs))

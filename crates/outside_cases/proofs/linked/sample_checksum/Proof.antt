@@ -11,41 +11,8 @@ Inv-loop s sum₀ i₀ sum i = i ≤ length s
 abbrev μ-loop : tie.MeasureT-loop
 μ-loop s sum₀ i₀ sum i = length s - i
 
-loop-holds : tie.Need-loop-holds Inv-loop μ-loop
-loop-holds c = search needs
-
-shared-slice-copy-out-sample-byte : tie.Need-shared-slice-copy-out-sample-byte Inv-loop μ-loop
-shared-slice-copy-out-sample-byte c = search needs
-
-sample-byte-requires : tie.Need-sample-byte-requires Inv-loop μ-loop
-sample-byte-requires c κs = search needs
-
-checksum-with-requires : tie.Need-checksum-with-requires Inv-loop μ-loop
-checksum-with-requires c κs = search needs
-
-add-i : tie.Need-add-i Inv-loop μ-loop
-add-i c = search needs
-
-loop-less : tie.Need-loop-less Inv-loop μ-loop
-loop-less c = search needs
-
-loop-again : tie.Need-loop-again Inv-loop μ-loop
-loop-again c = search needs
-
-returns : tie.Need-returns Inv-loop μ-loop
-returns c = search needs
-
 pub sample-checksum-spec : {M : Type 1} → statement M
 sample-checksum-spec =
-    tie.close
-    (tie.spec
-    Inv-loop
-    μ-loop
-    loop-holds
-    shared-slice-copy-out-sample-byte
-    sample-byte-requires
-    checksum-with-requires
-    add-i
-    loop-less
-    loop-again
-    returns)
+    tie.close (tie.spec Inv-loop μ-loop
+    (λ c. search needs) (λ c. search needs) (λ c κs. search needs) (λ c κs. search needs) (λ c. search needs)
+    (λ c. search needs) (λ c. search needs) (λ c. search needs))

@@ -1,9 +1,10 @@
 -- `encode` meets its contract: on a refusal nothing is written, and else its parts make the codeword (EncodeLaws).
 use mathlib.Core.Path.{_≡_, sym, _∙_}
 use borrow.Author.Needs.{needs}
-use Rattle.refusal.proofs.Laws.{when-taken, when-refused}
+use Rattle.refusal.proofs.Laws.{when-accepted, when-refused}
+use Rattle.polar_code.specs.Code.{Code, codeOf}
 use Rattle.polar.specs.Encode.{encodeRefusal, encodeBuffer, Encodable}
-use Rattle.polar.proofs.EncodeLaws.{taken, placing, whole-block, whole-word}
+use Rattle.polar.proofs.EncodeLaws.{accepted, placing, whole-block, whole-word}
 use Rattle.polar.proofs.encoder.encode.Statement.{statement}
 use Rattle.polar.proofs.encoder.encode.Tie as tie
 
@@ -11,12 +12,23 @@ use Rattle.polar.proofs.encoder.encode.Tie as tie
 abbrev entry : tie.Else1 → tie.Start
 entry c = c .before .before .before .before .before .before .before
 
--- there the input is taken
-none-fits : (c : tie.Else1) → encodeRefusal (entry c .args .n) (entry c .args .map .now) (entry c .args .coefs .now) (entry c .args .message .now) (entry c .args .codeword .now) ≡ 0
+-- that place, from the one where the message is placed, and this one, from the one where the word is transformed
+abbrev to-accepted : tie.After-place-message → tie.Else1
+to-accepted c = c .before .before
+
+abbrev to-placed : tie.After-transform-block → tie.After-place-message
+to-placed c = c .before .before .before .before
+
+-- the code that it was given
+abbrev given : tie.Start → Code
+given s = codeOf (s .args .n) (s .args .map .now) (s .args .coefs .now)
+
+-- there the input is accepted
+none-fits : (c : tie.Else1) → encodeRefusal (given (entry c)) (entry c .args .message .now) (entry c .args .codeword .now) ≡ 0
 none-fits c = sym (c .before .encode-refusal .ensures) ∙ c .if1 .left
 
-input : (c : tie.Else1) → Encodable (entry c .args .n) (entry c .args .map .now) (entry c .args .coefs .now) (entry c .args .message .now) (entry c .args .codeword .now)
-input c = taken _ _ _ _ _ (none-fits c)
+input : (c : tie.Else1) → Encodable (given (entry c)) (entry c .args .message .now) (entry c .args .codeword .now)
+input c = accepted _ _ _ (none-fits c)
 
 encode-refusal-requires : tie.Need-encode-refusal-requires
 encode-refusal-requires c κs = search needs
@@ -31,10 +43,10 @@ returns c =
     record { answer = e; codeword = sym (when-refused _ _ _ (λ z. c .if1 .taken (e ∙ z))) }
 
 place-message-requires : tie.Need-place-message-requires
-place-message-requires c κs = placing _ _ _ _ _ (input (c .before))
+place-message-requires c κs = placing _ _ _ (input (c .before))
 
 transform-block-requires : tie.Need-transform-block-requires
-transform-block-requires c κs = whole-block _ _ _ _ _ (input (c .before .before .before .before .before)) _ (c .before .before .before .place-message .ensures)
+transform-block-requires c κs = let p = c .before .before .before in whole-block _ _ _ (input (to-accepted p)) _ (p .place-message .ensures)
 
 same-length-2 : tie.Need-same-length-2
 same-length-2 c = search needs
@@ -42,11 +54,13 @@ same-length-2 c = search needs
 returns-2 : tie.Need-returns-2
 unfolding encodeBuffer
 returns-2 c =
-    let e = c .before .before .before .before .before .before .before .before in
+    let t = c .before .before in
+    let p = to-placed t in
+    let e = to-accepted p in
     record {
       answer = sym (none-fits e);
-      codeword = whole-word _ _ _ _ _ (input e) _ _ (c .before .before .before .before .before .before .place-message .ensures) (c .before .before .transform-block .ensures)
-          ∙ sym (when-taken _ _ _ (none-fits e));
+      codeword = whole-word _ _ _ (input e) _ _ (p .place-message .ensures) (t .transform-block .ensures)
+          ∙ sym (when-accepted _ _ _ (none-fits e));
     }
 
 pub encode-spec : {M : Type 1} → statement M

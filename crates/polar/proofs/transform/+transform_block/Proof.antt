@@ -1,18 +1,19 @@
--- `transform_block` meets its contract: the halves are transformed, one layer less each, and then joined (BlockLaws); four places have a function of their own.
-use mathlib.Core.Path.{_≡_, sym, ap, _∙_}
+-- `transform_block` meets its contract: the halves are transformed, one layer less each, and then joined (BlockLaws),
+-- down to one place.
+use mathlib.Core.Path.{_≡_, sym, _∙_}
 use Prim.Native.Nat.{ℕ, _+_, _-_, _≤_, _<_}
 use native.Mathlib.Omega.{arith}
 use borrow.Author.Needs.{needs}
 use borrow.Fn.Kinds.{In}
 use borrow.Fn.PlainCycle.{Measures, is, falls, and}
+use mathlib.Core.List.{List, _++_}
+use lib.ListN.{length, take, drop}
 use lib.Seq.{length-take-le}
-use Rattle.polar.specs.Halves.{blockTransform}
-use Rattle.polar.proofs.FourLaws.{at-four}
-use Rattle.polar.proofs.BlockLaws.{at-leaf, at-sizes, at-first, at-second, at-joins, at-transformed, lent-long, lent-whole}
+use Rattle.vector.proofs.LentParts.{tail, lent-long, lent-whole}
+use Rattle.polar.proofs.BlockLaws.{at-leaf, at-sizes, at-first, at-second, at-joins, at-transformed}
 use Rattle.polar.proofs.transform.transform_block.Reads as block-reads
 use Rattle.polar.proofs.transform.transform_block.Kinds as block-kinds
 use Rattle.polar.proofs.transform.+transform_block.Lts-transform_block as lts
-use Rattle.polar.proofs.transform.transform_four.Reads as four-reads
 use Rattle.polar.proofs.transform.join_kernels.Reads as join-reads
 use Rattle.polar.proofs.transform.+transform_block.{statement}
 use Rattle.polar.proofs.transform.+transform_block.Tie.{close}
@@ -29,132 +30,124 @@ below t = and 2 block-kinds.ps (falls 2 block-kinds.ps _<_ μ-layers t) block-re
 
 -- what the functions that it calls ask and say
 abbrev calls : ℕ → lts.Claims
-calls t = (four-reads.Asked, four-reads.Learnt, below t, block-reads.Post, join-reads.Asked, join-reads.Learnt)
-
--- what is known once there is a layer, and not two
-abbrev else-start : (t : ℕ) → lts.Else2 (calls t) (given t) block-reads.Post → lts.Start (calls t) (given t) block-reads.Post
-else-start t c = c .before .before .before .before
+calls t = (below t, block-reads.Post, join-reads.Asked, join-reads.Learnt)
 
 -- the number of layers falls at each call
 fewer : (layers t : ℕ) → (layers ≡ 0 → ⊥) → layers ≡ t → layers - 1 < t
 fewer layers t ne e = omega arith
 
-returns : (t : ℕ) → lts.Need-returns (calls t) (given t) block-reads.Post
-returns t c = at-leaf (c .if1 .taken) (c .before .before .before .pre .1)
+module _ (t : ℕ) where
+  -- ---- the states: where the call begins, after the test for a layer, after each half, and after the halves are joined
+  abbrev Entry : Type 0
+  Entry = lts.Start (calls t) (given t) block-reads.Post
 
-four-requires : (t : ℕ) → lts.Need-transform-four-requires (calls t) (given t) block-reads.Post
-four-requires t c κs = at-four (c .before .if2 .taken) (c .before .before .before .before .before .pre .1)
+  abbrev Layered : Type 0
+  Layered = lts.Else1 (calls t) (given t) block-reads.Post
 
-four-same-length : (t : ℕ) → lts.Need-same-length (calls t) (given t) block-reads.Post
-four-same-length t c = c .before .before .transform-four .kept .1 .1 .1 .0
+  abbrev FirstDone : Type 0
+  FirstDone = lts.After-transform-block (calls t) (given t) block-reads.Post
 
-returns-2 : (t : ℕ) → lts.Need-returns-2 (calls t) (given t) block-reads.Post
-returns-2 t c =
-    let s = c .before .before .before .before .before .before .before .before in
-    c .before .before .transform-four .ensures
-    ∙ ap (λ (m : ℕ). blockTransform m (s .args .start) (s .args .stride) (s .args .coefs .now) (s .args .word .now)) (sym (c .before .before .before .before .if2 .taken))
+  abbrev SecondDone : Type 0
+  SecondDone = lts.After-transform-block2 (calls t) (given t) block-reads.Post
 
--- where the halves' coefficients begin is a small number
-starts-small : (t : ℕ) (c : lts.Else2 (calls t) (given t) block-reads.Post) → let a = (else-start t c) .args in a .start + a .stride + a .half ≤ 1280
-starts-small t c =
-    let z = at-sizes (c .before .if1 .left) ((else-start t c) .pre .1) in
-    let l = (else-start t c) .pre .1 .stride-small in
-    omega arith
+  abbrev Joined : Type 0
+  Joined = lts.After-join-kernels (calls t) (given t) block-reads.Post
 
-add-first : (t : ℕ) → lts.Need-add-first (calls t) (given t) block-reads.Post
-add-first t c = let l = starts-small t c in omega arith
+  -- from each to the one before it
+  abbrev entry : Layered → Entry
+  entry c = c .before .before .before
 
-add-second : (t : ℕ) → lts.Need-add-second (calls t) (given t) block-reads.Post
-add-second t c = let l = starts-small t c in omega arith
+  abbrev to-layered : FirstDone → Layered
+  to-layered c = c .before .before
 
-sub-first : (t : ℕ) → lts.Need-sub-transform-block (calls t) (given t) block-reads.Post
-sub-first t c = search needs
+  abbrev to-first : SecondDone → FirstDone
+  to-first c = c .before .before .before .before
 
-prefix : (t : ℕ) → lts.Need-slice-relend-prefix-transform-block (calls t) (given t) block-reads.Post
-prefix t c = at-sizes (c .before .if1 .left) ((else-start t c) .pre .1) .within
+  abbrev to-second : Joined → SecondDone
+  to-second c = c .before .before .before .before
 
-aggregate : (t : ℕ) → lts.Need-slice-aggregate-transform-block (calls t) (given t) block-reads.Post
-aggregate t c =
-    let s = else-start t (c .before) in
-    sym (length-take-le (s .args .half) (s .args .word .now) (at-sizes (c .before .before .if1 .left) (s .pre .1) .within))
+  -- ---- what is known at the test for a layer: there is one, and the block has room
+  layer : (c : Layered) → entry c .args .layers ≡ 0 → ⊥
+  layer c = c .if1 .left
 
-first-requires : (t : ℕ) → lts.Need-transform-block-requires (calls t) (given t) block-reads.Post
-first-requires t c κs =
-    let s = else-start t (c .before) in
-    (fewer (s .args .layers) t (c .before .before .if1 .left) (s .pre .0), at-first (c .before .before .if1 .left) (s .pre .1))
+  within : (c : Layered) → entry c .args .half ≤ length (entry c .args .word .now)
+  within c = at-sizes (layer c) (entry c .pre .1) .within
 
-sub-second : (t : ℕ) → lts.Need-sub-transform-block-2 (calls t) (given t) block-reads.Post
-sub-second t c = search needs
+  -- where the halves' coefficients begin is a small number
+  starts-small : (c : Layered) → let a = entry c .args in a .start + a .stride + a .half ≤ 1280
+  starts-small c =
+      let z = at-sizes (layer c) (entry c .pre .1) in
+      let l = entry c .pre .1 .stride-small in
+      omega arith
 
-sub-rest : (t : ℕ) → lts.Need-sub-transform-block-3 (calls t) (given t) block-reads.Post
-sub-rest t c =
-    let s = else-start t (c .before .before .before .before) in
-    let ne = (c .before .before .before .before) .before .if1 .left in
-    let z = at-sizes ne (s .pre .1) .within in
-    let call = c .before .before .transform-block in
-    let e = lent-long (s .args .half) (s .args .word .now) (call .last .1 .1 .1 .1 .1 .0) (call .kept .1 .1 .1 .1 .1 .0) z in
-    omega arith
+  -- ---- what the first half left of its part of the word, and its length
+  abbrev first-word : FirstDone → List ℕ
+  first-word c = c .transform-block .last .1 .1 .1 .1 .1 .0
 
-part-start : (t : ℕ) → lts.Need-part-transform-block-start (calls t) (given t) block-reads.Post
-part-start t c = sub-rest t c
+  first-long : (c : FirstDone) → length (first-word c) ≡ length (take (entry (to-layered c) .args .half) (entry (to-layered c) .args .word .now))
+  first-long c = c .transform-block .kept .1 .1 .1 .1 .1 .0
 
-part-end : (t : ℕ) → lts.Need-part-transform-block-end (calls t) (given t) block-reads.Post
-part-end t c = search needs
+  -- the second half lies in the word
+  second-part : (c : FirstDone) → let a = entry (to-layered c) .args in a .half ≤ length (first-word c ++ drop (a .half) (a .word .now))
+  second-part c =
+      let a = entry (to-layered c) .args in
+      let z = within (to-layered c) in
+      let e = lent-long (a .half) (a .word .now) (first-word c) (first-long c) z in
+      omega arith
 
-second-requires : (t : ℕ) → lts.Need-transform-block-requires-2 (calls t) (given t) block-reads.Post
-second-requires t c κs =
-    let s = else-start t (c .before .before .before .before .before) in
-    let ne = (c .before .before .before .before .before) .before .if1 .left in
-    let call = c .before .before .before .transform-block in
-    (fewer (s .args .layers) t ne (s .pre .0), at-second ne (s .pre .1) (call .last .1 .1 .1 .1 .1 .0) (call .kept .1 .1 .1 .1 .1 .0))
+  -- ---- what the second half left, and what the joined word is
+  abbrev second-word : SecondDone → List ℕ
+  second-word c = c .transform-block2 .last .1 .1 .1 .1 .1 .0
 
-join-requires : (t : ℕ) → lts.Need-join-kernels-requires (calls t) (given t) block-reads.Post
-join-requires t c κs =
-    let s = else-start t (c .before .before .before .before .before .before .before .before .before) in
-    let ne = (c .before .before .before .before .before .before .before .before .before) .before .if1 .left in
-    let one = c .before .before .before .before .before .before .before .transform-block in
-    let two = c .before .before .before .transform-block2 in
-    at-joins ne (s .pre .1) (one .last .1 .1 .1 .1 .1 .0) (one .kept .1 .1 .1 .1 .1 .0) (two .last .1 .1 .1 .1 .1 .0) (two .kept .1 .1 .1 .1 .1 .0)
+  second-long : (c : SecondDone) → let d = to-first c in let a = entry (to-layered d) .args in
+      length (second-word c) ≡ length (tail (a .half) (first-word d ++ drop (a .half) (a .word .now)))
+  second-long c = c .transform-block2 .kept .1 .1 .1 .1 .1 .0
 
-same-length : (t : ℕ) → lts.Need-same-length-2 (calls t) (given t) block-reads.Post
-same-length t c =
-    let s = else-start t (c .before .before .before .before .before .before .before .before .before .before .before .before) in
-    let ne = (c .before .before .before .before .before .before .before .before .before .before .before .before) .before .if1 .left in
-    let one = c .before .before .before .before .before .before .before .before .before .before .transform-block in
-    let two = c .before .before .before .before .before .before .transform-block2 in
-    c .before .before .join-kernels .kept .1 .1 .1 .0
-    ∙ lent-whole (s .args .half) (s .args .word .now) (one .last .1 .1 .1 .1 .1 .0) (one .kept .1 .1 .1 .1 .1 .0) (at-sizes ne (s .pre .1) .within)
-    (two .last .1 .1 .1 .1 .1 .0) (two .kept .1 .1 .1 .1 .1 .0)
-
-returns-3 : (t : ℕ) → lts.Need-returns-3 (calls t) (given t) block-reads.Post
-returns-3 t c =
-    let s = else-start t (c .before .before .before .before .before .before .before .before .before .before .before .before) in
-    let ne = (c .before .before .before .before .before .before .before .before .before .before .before .before) .before .if1 .left in
-    let one = c .before .before .before .before .before .before .before .before .before .before .transform-block in
-    let two = c .before .before .before .before .before .before .transform-block2 in
-    let three = c .before .before .join-kernels in
-    at-transformed ne (s .pre .1) (one .last .1 .1 .1 .1 .1 .0) (one .kept .1 .1 .1 .1 .1 .0) (two .last .1 .1 .1 .1 .1 .0) (two .kept .1 .1 .1 .1 .1 .0)
-    (three .last .1 .1 .1 .0) (three .kept .1 .1 .1 .0) (one .ensures) (two .ensures) (three .ensures)
+  done : lts.Need-returns-2 (calls t) (given t) block-reads.Post
+  done c =
+      let j = c .before .before in
+      let s = to-second j in
+      let d = to-first s in
+      let e = to-layered d in
+      at-transformed (layer e) (entry e .pre .1) (first-word d) (first-long d) (second-word s) (second-long s)
+      (j .join-kernels .last .1 .1 .1 .0) (j .join-kernels .kept .1 .1 .1 .0) (d .transform-block .ensures) (s .transform-block2 .ensures) (j .join-kernels .ensures)
 
 pub +transform-block-spec : {M : Type 1} → statement M
 +transform-block-spec =
     close μ-layers λ t.
     lts.spec (calls t) (given t) block-reads.Post
-    (returns t)
-    (four-requires t)
-    (four-same-length t)
-    (returns-2 t)
-    (add-first t)
-    (add-second t)
-    (sub-first t)
-    (prefix t)
-    (aggregate t)
-    (first-requires t)
-    (sub-second t)
-    (sub-rest t)
-    (part-start t)
-    (part-end t)
-    (second-requires t)
-    (join-requires t)
-    (same-length t)
-    (returns-3 t)
+    -- one place
+    (λ c. at-leaf (c .if1 .taken) (c .before .before .before .pre .1))
+    -- where the coefficients of the halves begin
+    (λ c. let l = starts-small t c in omega arith)
+    (λ c. let l = starts-small t c in omega arith)
+    -- the first half
+    (λ c. search needs)
+    (λ c. within t c)
+    (λ c. let a = entry t (c .before) .args in sym (length-take-le (a .half) (a .word .now) (within t (c .before))))
+    (λ c κs.
+    let e = c .before in
+    (fewer (entry t e .args .layers) t (layer t e) (entry t e .pre .0), at-first (layer t e) (entry t e .pre .1)))
+    -- the second half
+    (λ c. search needs)
+    (λ c. second-part t (c .before .before))
+    (λ c. second-part t (c .before .before))
+    (λ c. search needs)
+    (λ c κs.
+    let d = c .before .before .before in
+    let e = to-layered t d in
+    (fewer (entry t e .args .layers) t (layer t e) (entry t e .pre .0), at-second (layer t e) (entry t e .pre .1) (first-word t d) (first-long t d)))
+    -- the two joined
+    (λ c κs.
+    let s = c .before .before .before in
+    let d = to-first t s in
+    let e = to-layered t d in
+    at-joins (layer t e) (entry t e .pre .1) (first-word t d) (first-long t d) (second-word t s) (second-long t s))
+    (λ c.
+    let j = c .before .before in
+    let s = to-second t j in
+    let d = to-first t s in
+    let a = entry t (to-layered t d) .args in
+    j .join-kernels .kept .1 .1 .1 .0
+    ∙ lent-whole (a .half) (a .word .now) (first-word t d) (first-long t d) (within t (to-layered t d)) (second-word t s) (second-long t s))
+    (done t)

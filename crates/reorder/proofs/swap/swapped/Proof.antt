@@ -2,12 +2,13 @@
 use Prim.Native.Nat.{_-_, _*_, _%_, _≤_}
 use native.Mathlib.Omega.{arith}
 use borrow.Author.Needs.{needs}
-use mathlib.Core.Path.{refl}
+use mathlib.Core.Path.{refl, ap}
 use lib.ListN.{getD}
 use Rattle.vector.proofs.Laws.{tabulate-by}
 use Rattle.gf64.specs.Field.{_⊕_}
-use Rattle.reorder.specs.Parts.{Mapped, swapped}
-use Rattle.reorder.proofs.LoopLaws.{map-none, map-join, map-all}
+use Rattle.reorder.specs.Order.{Mapped, swapped}
+use Rattle.reorder.proofs.LoopLaws.{map-none, map-ext, map-join, map-all}
+use Rattle.reorder.proofs.SwapLaws.{own-source}
 use Rattle.reorder.proofs.swap.swapped.Statement.{statement}
 use Rattle.reorder.proofs.swap.swapped.Tie as tie
 
@@ -20,17 +21,13 @@ abbrev μ-loop : tie.MeasureT-loop
 loop-holds : tie.Need-loop-holds Inv-loop μ-loop
 loop-holds c = (map-none (omega arith) refl, omega arith)
 
-swapped-block-requires : tie.Need-swapped-block-requires Inv-loop μ-loop
-swapped-block-requires c κs = (omega arith, omega arith, c .before .loop .inv .0 .long)
-
-add-block : tie.Need-add-block Inv-loop μ-loop
-add-block c = search needs
-
-loop-less : tie.Need-loop-less Inv-loop μ-loop
-loop-less c = search needs
-
 loop-again : tie.Need-loop-again Inv-loop μ-loop
-loop-again c = (map-all (map-join (omega arith) (omega arith) (c .before .before .loop .inv .0) (c .swapped-block .ensures)) (omega arith), omega arith)
+loop-again c =
+    let head = c .before .before in
+    let a = head .before .args in
+    let block = map-ext {g = λ b _. getD (a .v .now) (b ⊕ (a .run % 8)) 0} (c .part-replaced .ensures .replaced (head .loop .inv .0 .long) (omega arith) (omega arith))
+    (λ b z p q. ap (λ (k : _). getD (a .v .now) k 0) (own-source (8 * head .loop .block) b (a .run) p)) in
+    (map-all (map-join (omega arith) (omega arith) (head .loop .inv .0) block) (omega arith), omega arith)
 
 returns : tie.Need-returns Inv-loop μ-loop
 unfolding swapped
@@ -41,12 +38,6 @@ returns c =
 pub swapped-spec : {M : Type 1} → statement M
 swapped-spec =
     tie.close
-    (tie.spec
-    Inv-loop
-    μ-loop
-    loop-holds
-    swapped-block-requires
-    add-block
-    loop-less
-    loop-again
-    returns)
+    (tie.spec Inv-loop μ-loop loop-holds
+    (λ c. search needs) (λ c κs. search needs) (λ c. search needs) (λ c. search needs)
+    loop-again returns)

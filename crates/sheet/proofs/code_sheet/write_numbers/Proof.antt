@@ -20,56 +20,30 @@ abbrev μ-loop : tie.MeasureT-loop
 loop-holds : tie.Need-loop-holds Inv-loop μ-loop
 loop-holds c = (c .before .before .pre, fill-none refl)
 
-add-at : tie.Need-add-at Inv-loop μ-loop
-add-at c = search needs
+-- the loop's head, from the place where a number is read, and the entry, from the head
+abbrev at-loop : tie.After-spelled-number Inv-loop μ-loop → tie.At-loop Inv-loop μ-loop
+at-loop c = c .before .before .before
 
-mul-at : tie.Need-mul-at Inv-loop μ-loop
-mul-at c = search needs
-
-add-end : tie.Need-add-end Inv-loop μ-loop
-add-end c = search needs
-
-sub-spelled-number : tie.Need-sub-spelled-number Inv-loop μ-loop
-sub-spelled-number c = search needs
-
-part-spelled-number-start : tie.Need-part-spelled-number-start Inv-loop μ-loop
-part-spelled-number-start c = search needs
-
-part-spelled-number-end : tie.Need-part-spelled-number-end Inv-loop μ-loop
-part-spelled-number-end c = search needs
-
-spelled-number-requires : tie.Need-spelled-number-requires Inv-loop μ-loop
-spelled-number-requires c κs = search needs
+abbrev entry : tie.At-loop Inv-loop μ-loop → tie.Start Inv-loop μ-loop
+entry c = c .before .before .before
 
 -- the number on the line
-number-is : (c : tie.After-spelled-number Inv-loop μ-loop) → let a = c .before .before .before .before .before .before .args in
-    c .spelled-number .result ≡ numberOn (a .first + c .before .before .before .loop .i) (a .bytes .now)
+number-is : (c : tie.After-spelled-number Inv-loop μ-loop) → let a = entry (at-loop c) .args in
+    c .spelled-number .result ≡ numberOn (a .first + at-loop c .loop .i) (a .bytes .now)
 number-is c = c .spelled-number .ensures ∙ lent-number _ _
 
 cast-out : tie.Need-cast-out Inv-loop μ-loop
 cast-out c =
-    let at = c .before .before .before .loop in
+    let at = at-loop c .loop in
     let given = at .inv .0 in
     let s = given .small (at .i) (search needs) in
     let e = number-is c in
     search needs
 
-slice-write-out : tie.Need-slice-write-out Inv-loop μ-loop
-slice-write-out c = search needs
-
-add-i : tie.Need-add-i Inv-loop μ-loop
-add-i c = search needs
-
-loop-less : tie.Need-loop-less Inv-loop μ-loop
-loop-less c = search needs
-
 loop-again : tie.Need-loop-again Inv-loop μ-loop
 loop-again c =
-    let at = c .before .before .before .loop in
+    let at = at-loop c .loop in
     (at .inv .0, fill-more (at .inv .1) (search needs) (number-is c))
-
-same-length : tie.Need-same-length Inv-loop μ-loop
-same-length c = search needs
 
 returns : tie.Need-returns Inv-loop μ-loop
 unfolding numbersOn
@@ -81,22 +55,12 @@ returns c =
 
 pub write-numbers-spec : {M : Type 1} → statement M
 write-numbers-spec =
-    tie.close
-    (tie.spec
-    Inv-loop
-    μ-loop
+    tie.close (tie.spec Inv-loop μ-loop
     loop-holds
-    add-at
-    mul-at
-    add-end
-    sub-spelled-number
-    part-spelled-number-start
-    part-spelled-number-end
-    spelled-number-requires
+    (λ c. search needs) (λ c. search needs) (λ c. search needs) (λ c. search needs) (λ c. search needs)
+    (λ c. search needs) (λ c κs. search needs)
     cast-out
-    slice-write-out
-    add-i
-    loop-less
+    (λ c. search needs) (λ c. search needs) (λ c. search needs)
     loop-again
-    same-length
+    (λ c. search needs)
     returns)

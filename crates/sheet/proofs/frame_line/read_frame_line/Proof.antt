@@ -3,24 +3,21 @@ use mathlib.Core.Path.{sym, ap, _∙_}
 use mathlib.Core.Bool.{not}
 use native.Mathlib.Omega.{arith}
 use borrow.Author.Tests.{not-false}
-use Rattle.refusal.proofs.Laws.{none, here, later}
+use Rattle.refusal.proofs.Laws.{row-fits, row-passed, none-accepted}
 use Rattle.refusal.proofs.Within.{unequal-true, equal-false}
 use Rattle.sheet.specs.FrameLine.{lineLlrs}
-use Rattle.sheet.proofs.LineLaws.{line-refused, line-taken}
+use Rattle.sheet.proofs.LineLaws.{line-refused, line-accepted}
 use borrow.Author.Needs.{needs}
 use Rattle.sheet.proofs.frame_line.read_frame_line.Statement.{statement}
 use Rattle.sheet.proofs.frame_line.read_frame_line.Tie as tie
 
 returns : tie.Need-returns
-returns c = line-refused _ _ (here (unequal-true _ 64 (c .if1 .taken))) (λ q. absurd (omega arith))
-
-is-line-requires : tie.Need-is-line-requires
-is-line-requires c κs = search needs
+returns c = line-refused _ _ (row-fits 2 _ (unequal-true _ 64 (c .if1 .taken))) (λ q. absurd (omega arith))
 
 returns-2 : tie.Need-returns-2
 returns-2 c =
     line-refused _ _
-    (later (equal-false _ 64 (c .before .before .if1 .left)) (here (ap not (sym (c .before .is-line .ensures)) ∙ c .if2 .taken))) (λ q. absurd (omega arith))
+    (row-passed 2 _ (equal-false _ 64 (c .before .before .if1 .left)) ∙ row-fits 12 _ (ap not (sym (c .before .is-line .ensures)) ∙ c .if2 .taken)) (λ q. absurd (omega arith))
 
 write-llrs-requires : tie.Need-write-llrs-requires
 write-llrs-requires c κs = record {
@@ -28,19 +25,15 @@ write-llrs-requires c κs = record {
   long = c .before .before .before .if1 .left;
 }
 
-same-length : tie.Need-same-length
-same-length c = search needs
-
 returns-3 : tie.Need-returns-3
 unfolding lineLlrs
 returns-3 c =
     let written = c .before .before in
     let formed = written .before .before in
-    line-taken _ _
-    (later (equal-false _ 64 (formed .before .before .if1 .left)) (later (ap not (sym (formed .before .is-line .ensures)) ∙ formed .if2 .left) none))
+    line-accepted _ _
+    (none-accepted _ (equal-false _ 64 (formed .before .before .if1 .left), (ap not (sym (formed .before .is-line .ensures)) ∙ formed .if2 .left, tt)))
     (written .write-llrs .ensures)
 
 pub read-frame-line-spec : {M : Type 1} → statement M
 read-frame-line-spec =
-    tie.close
-    (tie.spec returns is-line-requires returns-2 write-llrs-requires same-length returns-3)
+    tie.close (tie.spec returns (λ c κs. search needs) returns-2 write-llrs-requires (λ c. search needs) returns-3)

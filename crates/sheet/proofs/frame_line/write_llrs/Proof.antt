@@ -24,29 +24,18 @@ loop-holds c =
     let g = c .before .before .pre in
     (g .is-line, line-long 4 64 (c .before .before .args .line .now) (g .is-line), fill-none (g .long))
 
-mul-at : tie.Need-mul-at Inv-loop μ-loop
-mul-at c = search needs
+-- the loop's head, from the place where a number is read, and the entry, from the head
+abbrev at-loop : tie.After-spelled-number Inv-loop μ-loop → tie.At-loop Inv-loop μ-loop
+at-loop c = c .before .before .before
 
-add-end : tie.Need-add-end Inv-loop μ-loop
-add-end c = search needs
-
-sub-spelled-number : tie.Need-sub-spelled-number Inv-loop μ-loop
-sub-spelled-number c = search needs
-
-part-spelled-number-start : tie.Need-part-spelled-number-start Inv-loop μ-loop
-part-spelled-number-start c = search needs
-
-part-spelled-number-end : tie.Need-part-spelled-number-end Inv-loop μ-loop
-part-spelled-number-end c = search needs
-
-spelled-number-requires : tie.Need-spelled-number-requires Inv-loop μ-loop
-spelled-number-requires c κs = search needs
+abbrev entry : tie.At-loop Inv-loop μ-loop → tie.Start Inv-loop μ-loop
+entry c = c .before .before .before
 
 -- the number is at most 9,999
 number-small : (c : tie.After-spelled-number Inv-loop μ-loop) → c .spelled-number .result < 65536
 number-small c =
-    let at = c .before .before .before .loop in
-    let line = c .before .before .before .before .before .before .args .line .now in
+    let at = at-loop c .loop in
+    let line = entry (at-loop c) .args .line .now in
     let s = line-small 4 64 line (at .inv .0) (at .i) (search needs) in
     let e = c .spelled-number .ensures ∙ lent-field (at .i) line in
     omega arith
@@ -56,25 +45,10 @@ cast-llrs c =
     let small = number-small c in
     search needs
 
-mul-llrs : tie.Need-mul-llrs Inv-loop μ-loop
-mul-llrs c = search needs
-
-slice-write-llrs : tie.Need-slice-write-llrs Inv-loop μ-loop
-slice-write-llrs c = search needs
-
-add-i : tie.Need-add-i Inv-loop μ-loop
-add-i c = search needs
-
-loop-less : tie.Need-loop-less Inv-loop μ-loop
-loop-less c = search needs
-
 loop-again : tie.Need-loop-again Inv-loop μ-loop
 loop-again c =
-    let at = c .before .before .before .loop in
+    let at = at-loop c .loop in
     (at .inv .0, at .inv .1, fill-more (at .inv .2) (search needs) (c .spelled-number .ensures ∙ lent-field (at .i) _))
-
-same-length : tie.Need-same-length Inv-loop μ-loop
-same-length c = search needs
 
 returns : tie.Need-returns Inv-loop μ-loop
 unfolding numbers
@@ -82,22 +56,12 @@ returns c = fill-all (c .before .loop .inv .2) (c .loop-test .left)
 
 pub write-llrs-spec : {M : Type 1} → statement M
 write-llrs-spec =
-    tie.close
-    (tie.spec
-    Inv-loop
-    μ-loop
+    tie.close (tie.spec Inv-loop μ-loop
     loop-holds
-    mul-at
-    add-end
-    sub-spelled-number
-    part-spelled-number-start
-    part-spelled-number-end
-    spelled-number-requires
+    (λ c. search needs) (λ c. search needs) (λ c. search needs) (λ c. search needs) (λ c. search needs)
+    (λ c κs. search needs)
     cast-llrs
-    mul-llrs
-    slice-write-llrs
-    add-i
-    loop-less
+    (λ c. search needs) (λ c. search needs) (λ c. search needs) (λ c. search needs)
     loop-again
-    same-length
+    (λ c. search needs)
     returns)

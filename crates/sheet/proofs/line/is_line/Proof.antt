@@ -20,6 +20,17 @@ Inv-loop bytes fields i₀ i =
 abbrev μ-loop : tie.MeasureT-loop
 μ-loop bytes fields i₀ i = fields - i
 
+-- the loop's head, from the place where a number is tested, and the entry, from the head
+abbrev at-loop : tie.After-is-number Inv-loop μ-loop → tie.At-loop Inv-loop μ-loop
+at-loop c = c .before .before .before
+
+abbrev entry : tie.At-loop Inv-loop μ-loop → tie.Start Inv-loop μ-loop
+entry c = c .before .before .before .before
+
+-- what was tested
+tested : (c : tie.After-is-number Inv-loop μ-loop) → isField 4 (part 4 (at-loop c .loop .i) (entry (at-loop c) .args .bytes .now)) ≡ c .is-number .result
+tested c = ap (isField 4) (sym (lent-part 4 (at-loop c .loop .i) (entry (at-loop c) .args .bytes .now))) ∙ sym (c .is-number .ensures)
+
 returns : tie.Need-returns Inv-loop μ-loop
 returns c =
     let a = c .before .before .args in
@@ -38,78 +49,38 @@ loop-holds c =
     let whole = c .if2 .left in
     (omega arith, omega arith, below-none _)
 
-mul-at : tie.Need-mul-at Inv-loop μ-loop
-mul-at c = search needs
-
-add-end : tie.Need-add-end Inv-loop μ-loop
-add-end c = search needs
-
-sub-is-number : tie.Need-sub-is-number Inv-loop μ-loop
-sub-is-number c = search needs
-
-part-is-number-start : tie.Need-part-is-number-start Inv-loop μ-loop
-part-is-number-start c = search needs
-
-part-is-number-end : tie.Need-part-is-number-end Inv-loop μ-loop
-part-is-number-end c = search needs
-
-is-number-requires : tie.Need-is-number-requires Inv-loop μ-loop
-is-number-requires c κs = search needs
-
 returns-3 : tie.Need-returns-3 Inv-loop μ-loop
 returns-3 c =
-    let a = c .before .before .before .before .before .before .before .before .args in
-    let at = c .before .before .before .before .loop in
-    let n = ap (isField 4) (sym (lent-part 4 (at .i) (a .bytes .now))) ∙ sym (c .before .is-number .ensures) ∙ not-true (c .before .is-number .result) (c .if3 .taken) in
+    let a = entry (at-loop (c .before)) .args in
+    let at = at-loop (c .before) .loop in
+    let n = tested (c .before) ∙ not-true (c .before .is-number .result) (c .if3 .taken) in
     sym (refuted (isLine 4 (a .fields) (a .bytes .now)) (λ e.
     let l = line-field 4 (a .fields) (a .bytes .now) e (at .i) (search needs) in
     true-false (sym l ∙ n)))
 
-add-i : tie.Need-add-i Inv-loop μ-loop
-add-i c = search needs
-
-loop-less : tie.Need-loop-less Inv-loop μ-loop
-loop-less c = search needs
-
 loop-again : tie.Need-loop-again Inv-loop μ-loop
 loop-again c =
-    let a = c .before .before .before .before .before .before .before .before .args in
-    let at = c .before .before .before .before .loop in
-    let n = ap (isField 4) (sym (lent-part 4 (at .i) (a .bytes .now))) ∙ sym (c .before .is-number .ensures) ∙ not-false (c .before .is-number .result) (c .if3 .left) in
+    let at = at-loop (c .before) .loop in
+    let n = tested (c .before) ∙ not-false (c .before .is-number .result) (c .if3 .left) in
     (search needs, at .inv .1, below-more _ (at .i) (at .inv .2) n)
-
-mul-result : tie.Need-mul-result Inv-loop μ-loop
-mul-result c = search needs
-
-shared-slice-read-result : tie.Need-shared-slice-read-result Inv-loop μ-loop
-shared-slice-read-result c = search needs
 
 returns-4 : tie.Need-returns-4 Inv-loop μ-loop
 returns-4 c =
-    let a = c .before .before .before .before .before .before .args in
+    let a = entry (c .before .before) .args in
     let at = c .before .before .loop in
     let over = c .before .loop-test .left in
     sym (last-decides 4 (a .fields) (a .bytes .now) (λ j l. at .inv .2 j (omega arith)) (at .inv .1))
 
 pub is-line-spec : {M : Type 1} → statement M
 is-line-spec =
-    tie.close
-    (tie.spec
-    Inv-loop
-    μ-loop
+    tie.close (tie.spec Inv-loop μ-loop
     returns
     returns-2
     loop-holds
-    mul-at
-    add-end
-    sub-is-number
-    part-is-number-start
-    part-is-number-end
-    is-number-requires
+    (λ c. search needs) (λ c. search needs) (λ c. search needs) (λ c. search needs) (λ c. search needs)
+    (λ c κs. search needs)
     returns-3
-    add-i
-    loop-less
+    (λ c. search needs) (λ c. search needs)
     loop-again
-    mul-result
-    shared-slice-read-result
+    (λ c. search needs) (λ c. search needs)
     returns-4)

@@ -8,21 +8,6 @@ use borrow.Author.Needs.{needs}
 use Rattle.sheet.proofs.number.is_number.Statement.{statement}
 use Rattle.sheet.proofs.number.is_number.Tie as tie
 
-spelled-number-requires : tie.Need-spelled-number-requires
-spelled-number-requires c κs = search needs
-
-slice-aggregate-write-number : tie.Need-slice-aggregate-write-number
-slice-aggregate-write-number c = search needs
-
-write-number-requires : tie.Need-write-number-requires
-write-number-requires c κs = search needs
-
-slice-aggregate-is-same : tie.Need-slice-aggregate-is-same
-slice-aggregate-is-same c = search needs
-
-is-same-requires : tie.Need-is-same-requires
-is-same-requires c κs = search needs
-
 returns : tie.Need-returns
 unfolding isField
 returns c =
@@ -35,11 +20,6 @@ returns c =
 
 pub is-number-spec : {M : Type 1} → statement M
 is-number-spec =
-    tie.close
-    (tie.spec
-    spelled-number-requires
-    slice-aggregate-write-number
-    write-number-requires
-    slice-aggregate-is-same
-    is-same-requires
+    tie.close (tie.spec
+    (λ c κs. search needs) (λ c. search needs) (λ c κs. search needs) (λ c. search needs) (λ c κs. search needs)
     returns)

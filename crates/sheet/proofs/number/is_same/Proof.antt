@@ -16,57 +16,42 @@ Inv-loop text form i₀ i = (i ≤ length text) × (length text ≡ length form)
 abbrev μ-loop : tie.MeasureT-loop
 μ-loop text form i₀ i = length text - i
 
+-- the loop's head, from the place where two bytes are compared, and the entry, from the head
+abbrev at-loop : tie.After-is-written Inv-loop μ-loop → tie.At-loop Inv-loop μ-loop
+at-loop c = c .before .before .before .before
+
+abbrev entry : tie.At-loop Inv-loop μ-loop → tie.Start Inv-loop μ-loop
+entry c = c .before .before .before
+
 loop-holds : tie.Need-loop-holds Inv-loop μ-loop
 loop-holds c = (omega arith, c .before .before .pre, refl)
 
-shared-slice-read-is-written : tie.Need-shared-slice-read-is-written Inv-loop μ-loop
-shared-slice-read-is-written c = search needs
-
-shared-slice-read-is-written-2 : tie.Need-shared-slice-read-is-written-2 Inv-loop μ-loop
-shared-slice-read-is-written-2 c = search needs
-
-is-written-requires : tie.Need-is-written-requires Inv-loop μ-loop
-is-written-requires c κs = search needs
-
 returns : tie.Need-returns Inv-loop μ-loop
 returns c =
-    let a = c .before .before .before .before .before .before .before .before .args in
-    let at = c .before .before .before .before .before .loop in
-    sym (at .inv .2 ∙ differs (a .text .now) (a .form .now) (at .inv .1) (at .i) (search needs) (sym (c .before .is-written .ensures) ∙ not-true (c .before .is-written .result) (c .if1 .taken)))
-
-add-i : tie.Need-add-i Inv-loop μ-loop
-add-i c = search needs
-
-loop-less : tie.Need-loop-less Inv-loop μ-loop
-loop-less c = search needs
+    let a = entry (at-loop (c .before)) .args in
+    let at = at-loop (c .before) .loop in
+    let n = sym (c .before .is-written .ensures) ∙ not-true (c .before .is-written .result) (c .if1 .taken) in
+    sym (at .inv .2 ∙ differs (a .text .now) (a .form .now) (at .inv .1) (at .i) (search needs) n)
 
 loop-again : tie.Need-loop-again Inv-loop μ-loop
 loop-again c =
-    let a = c .before .before .before .before .before .before .before .before .args in
-    let at = c .before .before .before .before .before .loop in (
-      search needs,
-      at .inv .1,
-      at .inv .2 ∙ agrees (a .text .now) (a .form .now) (at .inv .1) (at .i) (search needs) (sym (c .before .is-written .ensures) ∙ not-false (c .before .is-written .result) (c .if1 .left)),
-    )
+    let a = entry (at-loop (c .before)) .args in
+    let at = at-loop (c .before) .loop in
+    let n = sym (c .before .is-written .ensures) ∙ not-false (c .before .is-written .result) (c .if1 .left) in
+    (search needs, at .inv .1, at .inv .2 ∙ agrees (a .text .now) (a .form .now) (at .inv .1) (at .i) (search needs) n)
 
 returns-2 : tie.Need-returns-2 Inv-loop μ-loop
 returns-2 c =
-    let a = c .before .before .before .before .args in
+    let a = entry (c .before) .args in
     let at = c .before .loop in
     sym (at .inv .2 ∙ ended (a .text .now) (a .form .now) (at .inv .1) (at .i) (c .loop-test .left))
 
 pub is-same-spec : {M : Type 1} → statement M
 is-same-spec =
-    tie.close
-    (tie.spec
-    Inv-loop
-    μ-loop
+    tie.close (tie.spec Inv-loop μ-loop
     loop-holds
-    shared-slice-read-is-written
-    shared-slice-read-is-written-2
-    is-written-requires
+    (λ c. search needs) (λ c. search needs) (λ c κs. search needs)
     returns
-    add-i
-    loop-less
+    (λ c. search needs) (λ c. search needs)
     loop-again
     returns-2)

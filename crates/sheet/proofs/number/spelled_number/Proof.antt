@@ -6,48 +6,6 @@ use borrow.Author.Needs.{needs}
 use Rattle.sheet.proofs.number.spelled_number.Statement.{statement}
 use Rattle.sheet.proofs.number.spelled_number.Tie as tie
 
-shared-slice-read-digit-of : tie.Need-shared-slice-read-digit-of
-shared-slice-read-digit-of c = search needs
-
-digit-of-requires : tie.Need-digit-of-requires
-digit-of-requires c κs = search needs
-
-shared-slice-read-digit-of-2 : tie.Need-shared-slice-read-digit-of-2
-shared-slice-read-digit-of-2 c = search needs
-
-digit-of-requires-2 : tie.Need-digit-of-requires-2
-digit-of-requires-2 c κs = search needs
-
-shared-slice-read-digit-of-3 : tie.Need-shared-slice-read-digit-of-3
-shared-slice-read-digit-of-3 c = search needs
-
-digit-of-requires-3 : tie.Need-digit-of-requires-3
-digit-of-requires-3 c κs = search needs
-
-shared-slice-read-digit-of-4 : tie.Need-shared-slice-read-digit-of-4
-shared-slice-read-digit-of-4 c = search needs
-
-digit-of-requires-4 : tie.Need-digit-of-requires-4
-digit-of-requires-4 c κs = search needs
-
-mul-result : tie.Need-mul-result
-mul-result c = search needs
-
-add-result : tie.Need-add-result
-add-result c = search needs
-
-mul-result-2 : tie.Need-mul-result-2
-mul-result-2 c = search needs
-
-add-result-2 : tie.Need-add-result-2
-add-result-2 c = search needs
-
-mul-result-3 : tie.Need-mul-result-3
-mul-result-3 c = search needs
-
-add-result-3 : tie.Need-add-result-3
-add-result-3 c = search needs
-
 returns : tie.Need-returns
 returns c =
     let third = c .before .before in
@@ -63,20 +21,8 @@ returns c =
 
 pub spelled-number-spec : {M : Type 1} → statement M
 spelled-number-spec =
-    tie.close
-    (tie.spec
-    shared-slice-read-digit-of
-    digit-of-requires
-    shared-slice-read-digit-of-2
-    digit-of-requires-2
-    shared-slice-read-digit-of-3
-    digit-of-requires-3
-    shared-slice-read-digit-of-4
-    digit-of-requires-4
-    mul-result
-    add-result
-    mul-result-2
-    add-result-2
-    mul-result-3
-    add-result-3
+    tie.close (tie.spec
+    (λ c. search needs) (λ c κs. search needs) (λ c. search needs) (λ c κs. search needs) (λ c. search needs)
+    (λ c κs. search needs) (λ c. search needs) (λ c κs. search needs) (λ c. search needs) (λ c. search needs)
+    (λ c. search needs) (λ c. search needs) (λ c. search needs) (λ c. search needs)
     returns)

@@ -23,55 +23,32 @@ Inv-loop cap v llrs₀ count₀ c₀ llrs count c = Filled 64 (λ k. min cap (ge
 abbrev μ-loop : tie.MeasureT-loop
 μ-loop cap v llrs₀ count₀ c₀ llrs count c = 64 - c
 
+-- the loop's head, from the place where it is known whether the entry exceeds, and the entry of the call, from the head
+abbrev at-loop : tie.After-exceeds Inv-loop μ-loop → tie.At-loop Inv-loop μ-loop
+at-loop c = c .before .before .before .before
+
+abbrev entry : tie.At-loop Inv-loop μ-loop → tie.Start Inv-loop μ-loop
+entry c = c .before
+
 loop-holds : tie.Need-loop-holds Inv-loop μ-loop
 unfolding sumTo
 loop-holds c = (fill-none refl, refl, omega arith)
 
-mul-x : tie.Need-mul-x Inv-loop μ-loop
-mul-x c = search needs
-
-element-copy-out-x : tie.Need-element-copy-out-x Inv-loop μ-loop
-element-copy-out-x c = search needs
-
-clip-requires : tie.Need-clip-requires Inv-loop μ-loop
-clip-requires c κs = search needs
-
-mul-llrs : tie.Need-mul-llrs Inv-loop μ-loop
-mul-llrs c = search needs
-
-array-write-llrs : tie.Need-array-write-llrs Inv-loop μ-loop
-array-write-llrs c = search needs
-
-exceeds-requires : tie.Need-exceeds-requires Inv-loop μ-loop
-exceeds-requires c κs = search needs
-
-add-count : tie.Need-add-count Inv-loop μ-loop
-add-count c = search needs
-
-add-c : tie.Need-add-c Inv-loop μ-loop
-add-c c = search needs
-
-loop-less : tie.Need-loop-less Inv-loop μ-loop
-loop-less c = search needs
-
 loop-again : tie.Need-loop-again Inv-loop μ-loop
 loop-again c =
-    let at = c .before .before .before .before .loop in
-    let a = c .before .before .before .before .before .args in
+    let at = at-loop c .loop in
+    let a = entry (at-loop c) .args in
     let one = c .exceeds .ensures in (
       fill-more (at .inv .0) (omega arith) (c .before .clip .ensures),
       ap₂ (λ (x y : ℕ). x + y) (at .inv .1) (one .0) ∙ sym (sum-more (at .c) (over (a .cap) (a .v .now))),
       omega arith,
     )
 
-cast-count : tie.Need-cast-count Inv-loop μ-loop
-cast-count c = search needs
-
 returns : tie.Need-returns Inv-loop μ-loop
 unfolding clipped exceeding
 returns c =
     let at = c .before .loop in
-    let a = c .before .before .args in
+    let a = entry (c .before) .args in
     let e : at .c ≡ 64 = omega arith in
     let count = at .inv .1 ∙ ap (λ (x : ℕ). sumTo x (over (a .cap) (a .v .now))) e in
     (fill-all (at .inv .0) (c .loop-test .left), count, omega arith)
@@ -79,19 +56,9 @@ returns c =
 pub clip-llrs-spec : {M : Type 1} → statement M
 clip-llrs-spec =
     tie.close
-    (tie.spec
-    Inv-loop
-    μ-loop
-    loop-holds
-    mul-x
-    element-copy-out-x
-    clip-requires
-    mul-llrs
-    array-write-llrs
-    exceeds-requires
-    add-count
-    add-c
-    loop-less
+    (tie.spec Inv-loop μ-loop loop-holds
+    (λ c. search needs) (λ c. search needs) (λ c κs. search needs) (λ c. search needs) (λ c. search needs) (λ c κs. search needs)
+    (λ c. search needs) (λ c. search needs) (λ c. search needs)
     loop-again
-    cast-count
+    (λ c. search needs)
     returns)

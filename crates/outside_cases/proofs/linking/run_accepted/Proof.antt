@@ -1,0 +1,17 @@
+-- `run_accepted` ends.
+use Prim.Native.Nat.{_-_, _≤_}
+use borrow.Author.Needs.{needs}
+use Rattle.outside_cases.proofs.linking.run_accepted.Statement.{statement}
+use Rattle.outside_cases.proofs.linking.run_accepted.Tie as tie
+
+abbrev Inv-loop : tie.InvT-loop
+Inv-loop state last₀ i₀ last i = i ≤ 60
+
+abbrev μ-loop : tie.MeasureT-loop
+μ-loop state last₀ i₀ last i = 60 - i
+
+pub run-accepted-spec : {M : Type 1} → statement M
+run-accepted-spec =
+    tie.close (tie.spec Inv-loop μ-loop
+    (λ c. search needs) (λ c κs. search needs) (λ c κs. search needs) (λ c. search needs) (λ c. search needs)
+    (λ c. search needs) (λ c. search needs))
