@@ -1,143 +1,184 @@
-"""The expected results of 200 pseudo-random calls each of spreading, weighing
-and the part of one place.
+"""Records of 200 calls each of spreading and of weighing, and of the part of
+one place after each weighing."""
 
-A line 's' for spreading: the refusal number, then the numbers sent, or on a
-refusal how many numbers of the lent buffer are as they came: all of them.  The
-same for weighing in a line 'd'; and in a line 'p' the part of one place of the
-buffer that weighing was lent.
-"""
+import records
 
-import chips
-
-from draws import Generator, lent_length
+from draws import Generator, pick
+from pieces import (
+    BASES,
+    GAINS,
+    damaged,
+    entry_damage,
+    length_pairs,
+    lengths,
+    lent,
+    number_damage,
+    pairs,
+    sent_base,
+    symbols_slice,
+    up_to_two,
+)
 
 CASES = 200
+TAKEN = 60
 
-# What the lent buffers hold before the call.
-UNTOUCHED = 4711
+SPREAD = lengths(["symbols", "numbers"]) + BASES
+SPREAD += [entry_damage(7, "symbols", symbol) for symbol in (64, 65, 128, 255)]
 
-# The first of the two damages to the base.
-BASE = 12
+WEIGH = lengths(["samples", "frame"]) + BASES + GAINS
+WEIGH += [number_damage(3, "Qc", Qc) for Qc in (0, 6, 257)]
 
+# The gains that are drawn most often: low, so that few penalties are capped.
+BOTTOMS = (10, 40, 100, 200, 255)
 
-def draw_base(generator):
-    """A 64-bit base from four draws, the highest 16 bits first."""
-    base = 0
-    for _ in range(4):
-        base = base * 65536 + generator.draw()
-    return base
+# Lengths that are no whole count of symbols.
+UNEVEN = (1, 32, 63, 65, 96, 100, 127, 129, 192 + 32, 4000, 16383, 16385)
 
+# Counts of symbols at the limits, and past them.
+LIMITS = (0, 1, 2, 255, 256, 257, 258, 300)
 
-def halves_alike(base):
-    """The base with its lower 32 chips twice: itself turned by 32 chips."""
-    return base % 2 ** 32 * (2 ** 32 + 1)
-
-
-def damaged_base(base, damages, alike):
-    """The base as given: for damage `alike` equal to itself turned by 32
-    chips, for the next 0."""
-    if alike in damages:
-        return halves_alike(base)
-    if alike + 1 in damages:
-        return 0
-    return base
+# What is made before some calls of weighing: samples near 0, samples of
+# symbols sent without noise, and with some.
+SMALL = 2
+SENT = 3
+NOISY = 4
 
 
-def damaged_number(x, damages, below, high):
-    """A number as given: 0 for the damage `below`, `high` for the next."""
-    if below in damages:
-        return 0
-    if below + 1 in damages:
-        return high
-    return x
-
-
-def symbol_count(c):
+def symbol_count(generator):
     """How many symbols a case has: mostly few, and at the limits."""
-    return {0: 0, 1: 255, 2: 256, 3: 257}.get(c, c % 4 + 1)
+    drawn = generator.draw()
+    limits = {0: 0, 1: 255, 2: 256, 3: 257, 4: drawn // 40 % 250 + 1}
+    return limits.get(drawn % 40, drawn % 4 + 1)
 
 
-def result_line(name, refusal, result, length):
-    """The answer, and the numbers or how many are as they came."""
-    numbers = [length] if result is None else result
-    return " ".join([name] + [str(n) for n in [refusal] + numbers])
+def chosen(generator, damages):
+    """The damages of each call."""
+    for _ in range(TAKEN):
+        yield []
+    for damage in damages:
+        yield [damage]
+    yield from pairs(generator, damages, 3)
+    yield from length_pairs(generator, damages)
+    yield from up_to_two(generator, damages, CASES)
 
 
-def spread_case(generator):
-    """Draw one case of spreading; its line."""
-    count = symbol_count(generator.draw() % 40)
-    base = draw_base(generator)
-    symbols = [generator.draw() % 64 for _ in range(count)]
+# --- Spreading ---------------------------------------------------------------
+
+def spread_call(generator, count):
+    """A call of spreading."""
+    return dict(
+        base=sent_base(generator),
+        symbols=symbols_slice(generator, count),
+        numbers=lent(generator, "numbers", count),
+    )
+
+
+def spread_blocks(generator):
+    """The records of spreading."""
+    damages = chosen(generator, SPREAD)
+    for _ in range(CASES):
+        call = spread_call(generator, symbol_count(generator))
+        call = damaged(generator, call, next(damages))
+        yield [records.record("s", call)]
+
+
+# --- Weighing ----------------------------------------------------------------
+
+def draw_samples(generator, mode, length):
+    """Samples: any signed bytes, or those at the limits; or what was made
+    before."""
+    if mode == 0:
+        return records.drawn(length, generator.draw(), 0, 256, 255)
+    if mode == 1:
+        return records.drawn(length, generator.draw(), 127, 4, 130)
+    return records.same(length)
+
+
+def made_before(generator, mode, count, base):
+    """The records that make samples of symbols spread by this base."""
+    if mode < SMALL or count == 0 or count > 256:
+        return []
+    spread = spread_call(generator, count)
+    spread["base"] = base
+    sent = mode >= SENT
+    amplitude = generator.draw() % 127 + 1 if sent else 0
+    noise = amplitude + generator.draw() % 20 if mode == NOISY else 0
+    channel = dict(
+        amplitude=amplitude,
+        noise=min(noise, 127) if sent else 3,
+        lost=generator.draw() % 2 * 41 if mode == NOISY else 0,
+        seed=generator.draw(),
+        numbers=records.same(count),
+        samples=lent(generator, "samples", 64 * count),
+    )
+    return [records.record("s", spread), records.record("c", channel)]
+
+
+def draw_gain(generator):
+    """Top and bottom: any, or a low gain."""
     first = generator.draw()
     second = generator.draw()
-    damages = [first % 32, second % 32]
-    # A damaged symbol past the end of the slice is not seen.
-    place = second % 5
-    if 8 in damages and place < count:
-        symbols[place] = 64
-    if 9 in damages and place < count:
-        symbols[place] = 255
-    length = lent_length(count, damages, 0)
-    refusal, result = chips.spread(
-        damaged_base(base, damages, BASE), symbols, length)
-    return result_line("s", refusal, result, length)
+    if first % 2 == 0:
+        return first // 2 % 255 + 1, second % 255 + 1
+    return first // 2 % 4 + 1, BOTTOMS[second % len(BOTTOMS)]
 
 
-def draw_sample(generator, mode, chip, amplitude):
-    """A sample: any signed byte, a small one, one of a symbol sent without
-    noise, or one at the limits."""
-    drawn = generator.draw()
-    if mode == 0:
-        bits = drawn % 256
-    elif mode == 1:
-        bits = (drawn % 7 + 253) % 256
-    elif mode == 2:
-        return -amplitude if chip == 1 else amplitude
-    else:
-        bits = 127 + drawn % 4
-    return bits - 256 if bits >= 128 else bits
+def weigh_call(generator, mode, count, base):
+    """A call of weighing."""
+    top, bottom = draw_gain(generator)
+    return dict(
+        base=base,
+        samples=draw_samples(generator, mode, 64 * count),
+        top=top,
+        bottom=bottom,
+        Qc=generator.draw() % 5 + 1,
+        frame=lent(generator, "frame", 64 * count),
+    )
 
 
-def draw_symbol(generator, mode, base):
-    """The 64 samples of one symbol."""
-    symbol = generator.draw() % 64
-    amplitude = generator.draw() % 127 + 1
-    return [
-        draw_sample(generator, mode, (base >> (k + symbol) % 64) % 2, amplitude)
-        for k in range(64)
-    ]
+def part_record(generator, length):
+    """The record of the part of a place of the first entries of the frame."""
+    size = length // 64
+    place = pick(generator, (0, 1, size, max(size - 1, 0), size + 1,
+                             generator.draw() % 7))
+    return records.record("p", dict(frame=records.same(length), place=place))
 
 
-def demap_case(generator):
-    """Draw one case of weighing; its line and that of one place."""
-    count = symbol_count(generator.draw() % 40)
-    base = draw_base(generator)
-    mode = generator.draw() % 4
-    samples = []
-    for _ in range(count):
-        samples += draw_symbol(generator, mode, base)
-    damages = [generator.draw() % 32, generator.draw() % 32]
-    top = damaged_number(generator.draw() % 255 + 1, damages, 6, 257)
-    bottom = damaged_number(generator.draw() % 255 + 1, damages, 8, 256)
-    drawn = generator.draw()
-    Qc = damaged_number(drawn % 5 + 1, damages, 4, 257)
-    Qc = damaged_number(Qc, damages, 10, 6)
-    # A sample past those that were drawn is 0.
-    samples = (samples + [0])[:lent_length(64 * count, damages, 0)]
-    length = lent_length(64 * count, damages, 2)
-    refusal, result = chips.weigh(
-        damaged_base(base, damages, BASE), samples, top, bottom, Qc, length)
-    buffer = [UNTOUCHED] * length if result is None else result
-    part = chips.place_penalties(buffer, drawn % 7)
-    return [
-        result_line("d", refusal, result, length),
-        " ".join(["p"] + [str(n) for n in part]),
-    ]
+def weigh_blocks(generator):
+    """The records of weighing, each with the part of one place."""
+    damages = chosen(generator, WEIGH)
+    for i in range(CASES):
+        count = symbol_count(generator)
+        base = sent_base(generator)
+        call = weigh_call(generator, i % 5, count, base)
+        call = damaged(generator, call, next(damages))
+        yield (made_before(generator, i % 5, count, base)
+               + [records.record("d", call),
+                  part_record(generator, call["frame"].length)])
 
 
-def lines():
-    """The lines of all cases."""
-    generator = Generator(2)
-    for _ in range(CASES):
-        yield spread_case(generator)
-        yield from demap_case(generator)
+def uneven_blocks(generator):
+    """Weighing of samples that are no whole count of symbols, with as long a
+    frame, and the part of one place of it."""
+    for length in UNEVEN:
+        call = weigh_call(generator, 0, 1, sent_base(generator))
+        call["samples"] = call["samples"].of_length(length)
+        call["frame"] = call["frame"].of_length(length)
+        yield [records.record("d", call), part_record(generator, length)]
+
+
+def limit_blocks(generator):
+    """Spreading and weighing of symbols at and past the limits of their count,
+    and the part of a place after it."""
+    for count in LIMITS:
+        yield [records.record("s", spread_call(generator, count))]
+        call = weigh_call(generator, 0, count, sent_base(generator))
+        yield [records.record("d", call), part_record(generator, 64 * count)]
+
+
+def blocks():
+    """The records of all cases."""
+    yield from spread_blocks(Generator(2))
+    yield from weigh_blocks(Generator(3))
+    yield from uneven_blocks(Generator(4))
+    yield from limit_blocks(Generator(5))

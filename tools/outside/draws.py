@@ -1,5 +1,7 @@
-"""Pseudo-random draws, and damage to what is drawn, as the test program makes
-them."""
+"""Pseudo-random draws: the generator, and codes, words, frames and bases drawn
+with it."""
+
+import scms
 
 
 class Generator:
@@ -13,21 +15,9 @@ class Generator:
         return self.state // 65536
 
 
-def lent_length(needed, damages, short):
-    """The length of a slice as lent: as needed, or off by one."""
-    if short in damages:
-        return max(needed - 1, 0)
-    if short + 1 in damages:
-        return needed + 1
-    return needed
-
-
-def given_number(x, damages, first, instead):
-    """A number as given: another one for each damage from `first` on."""
-    for offset, number in enumerate(instead):
-        if first + offset in damages:
-            x = number
-    return x
+def pick(generator, choices):
+    """One of the choices."""
+    return choices[generator.draw() % len(choices)]
 
 
 def code_sizes(n):
@@ -38,16 +28,68 @@ def code_sizes(n):
     return size, layers * (size // 2)
 
 
-def damage_code(d, first, p, size, frozen_map, count, coefs):
-    """Damage d to a byte of the map or the coefficients, at a place that p
-    picks: `first` is the first of five such damages, other d do nothing."""
-    if d == first:
-        frozen_map[p % size] = 2
-    elif d == first + 1:
-        frozen_map[p % size] = 255
-    elif d == first + 2:
-        coefs[p % count] = 0
-    elif d == first + 3:
-        coefs[p % count] = 64
-    elif d == first + 4:
-        coefs[p % count] = 255
+def draw_base(generator):
+    """A 64-bit base from four draws, the highest 16 bits first."""
+    base = 0
+    for _ in range(4):
+        base = base * 65536 + generator.draw()
+    return base
+
+
+def halves_alike(base):
+    """The base with its lower 32 chips twice: itself turned by 32 chips."""
+    return base % 2 ** 32 * (2 ** 32 + 1)
+
+
+def draw_map(generator, size):
+    """A map with a message place: all of them, frozen places first, or any."""
+    mode = generator.draw() % 4
+    place = generator.draw() % size
+    if mode == 0:
+        return [0] * size
+    if mode == 1:
+        return [1] * place + [0] * (size - place)
+    map = [generator.draw() % 2 for _ in range(size)]
+    map[place] = 0
+    return map
+
+
+def draw_word(generator, n, map, coefs):
+    """The codeword of a drawn message; zeros for an n that is to be refused."""
+    message = [generator.draw() % 64 for _ in range(256)]
+    _, word = scms.encode(
+        n, map, coefs, message[:scms.message_places(map)], len(map))
+    return [0] * len(map) if word is None else word
+
+
+def draw_penalty(generator, mode, most):
+    """A penalty: any; mostly 0 or 1; or mostly the largest.
+
+    One draw is taken modulo two numbers, 15 or 31 and a power of 2: they have
+    no common divisor but 1, so what one gives leaves the other open.
+    """
+    drawn = generator.draw()
+    if mode == 1 and drawn % 15 < 13:
+        return drawn % 2
+    if mode == 2 and drawn % 31 != 0:
+        return most
+    return drawn % (most + 1)
+
+
+def draw_vector(generator, mode, most, symbol):
+    """The 64 penalties of a place; one of them, in mode 2 mostly the symbol's,
+    is 0."""
+    drawn = generator.draw()
+    zero = symbol if mode == 2 and drawn % 29 != 0 else drawn % 64
+    penalties = [draw_penalty(generator, mode, most) for _ in range(64)]
+    penalties[zero] = 0
+    return penalties
+
+
+def draw_frame(generator, most, word):
+    """A frame in a drawn mode; in mode 2 it is near the frame of the word."""
+    mode = generator.draw() % 3
+    frame = []
+    for symbol in word:
+        frame += draw_vector(generator, mode, most, symbol)
+    return frame

@@ -1,84 +1,44 @@
-"""The expected results of pseudo-random calls of the whole chain: 60 that are
-taken, 97 with one damage or none, and 66 with two.
+"""Records of round trips without noise: 170 that are taken, 97 with one damage
+or none, and 171 with two."""
 
-A line 'l': where the call is taken 0, the count of clipped entries, how many
-numbers of the work buffer are not 0 afterwards: none; and a checksum each of
-the samples, the frame and the report.  On a refusal its number, a checksum of
-the samples, and how many entries of each of the five other buffers have
-changed: none.  Where the call is taken, a line 'm' with the decoded message and
-a line 'y' with the symbols.
-"""
+import records
 
-import linking
-import scms
-
-from chip_cases import damaged_base, draw_base, halves_alike
-from decode_cases import (
-    COEFS_LENGTH,
-    FRAME_LENGTH,
-    MAP_LENGTH,
-    REPORT_LENGTH,
-    SYMBOLS_LENGTH,
-    WORK_LENGTH,
-    damage_bytes,
-    draw_map,
-    draw_precisions,
-    given_precisions,
+from draws import Generator, code_sizes
+from decode_cases import taken_layers
+from pieces import (
+    BASES,
+    CODE_BYTES,
+    CODE_LENGTHS,
+    GAINS,
+    LAYERS,
+    PRECISIONS,
+    coefs_slice,
+    damaged,
+    entry_damage,
+    length_pairs,
+    lengths,
     lent,
-    numbers_line,
-    taken_layers,
+    map_slice,
+    number_damage,
+    pairs,
+    precisions,
+    sent_base,
+    symbols_slice,
 )
-from draws import Generator, code_sizes, given_number, lent_length
 
 TAKEN = 60
+MORE = 110
 ALONE = 97
-PAIRS = 66
+PAIRS = 171
 
-# The damages to map, coefficients, frame, work buffer, symbols and report, to
-# Qc and Qm, and to the contents of map and coefficients are those of the
-# decoder, 1 to 24.  Each of the others here is the first of its kind.
-BASE = 25
-SYMBOL = 27
-LAYERS = 29
-AMPLITUDE = 32
-TOP = 36
-BOTTOM = 39
-LARGE_QM = 42
-MESSAGE_LENGTH = 43
-SAMPLES_LENGTH = 45
-DECODED_LENGTH = 47
-
-# How many damages there are, none among them.
-DAMAGES = 49
-
-# The damages by kind, first and count, in the order of their refusals: n, the
-# lengths that the decoder has too, those of message and samples, that of the
-# decoded message, Qc and Qm, a byte of the map, no message place, a coefficient,
-# a symbol of the message, the base, the gain, the amplitude.
-KINDS = (
-    (LAYERS, 3),
-    (MAP_LENGTH, 12),
-    (MESSAGE_LENGTH, 4),
-    (DECODED_LENGTH, 2),
-    (13, 6),
-    (19, 2),
-    (24, 1),
-    (21, 3),
-    (SYMBOL, 2),
-    (BASE, 2),
-    (TOP, 6),
-    (AMPLITUDE, 4),
-)
-
-
-def draw_sent_base(generator):
-    """A base: any; or a row of chips of period 32, 2 or 1 with one chip
-    changed, where a turn by the period differs in two chips only."""
-    base = draw_base(generator)
-    bit = 2 ** (generator.draw() % 64)
-    rows = [None, halves_alike(base), (2 ** 64 - 1) // 3 * 2, 0]
-    row = rows[generator.draw() % 4]
-    return base if row is None else row ^ bit
+DAMAGES = LAYERS + CODE_LENGTHS
+DAMAGES += lengths(["samples", "frame", "work", "symbols", "report"])
+DAMAGES += lengths(["message", "text"], 3)
+DAMAGES += PRECISIONS + CODE_BYTES
+DAMAGES += [entry_damage(7, "message", symbol) for symbol in (64, 128, 255)]
+DAMAGES += BASES + GAINS
+DAMAGES += [number_damage(19, "amplitude", amplitude)
+            for amplitude in (0, 128, 129, 256, 257, 2 ** 32 - 1)]
 
 
 def draw_amplitude(generator):
@@ -104,124 +64,54 @@ def draw_gain(generator, amplitude):
     return 1, 2 * amplitude + second % 2
 
 
-def damage_message(d, p, message):
-    """Damage d to the message, at a place that p picks."""
-    if d == SYMBOL:
-        message[p % len(message)] = 64
-    elif d == SYMBOL + 1:
-        message[p % len(message)] = 255
-
-
-def draw_call(generator, n, damages):
-    """The arguments of one call by name, with these damages at places that are
-    drawn too."""
+def draw_call(generator, n):
+    """A call that is taken, but for the lengths of the two messages."""
     size, count = code_sizes(n)
-    map = draw_map(generator, size)
-    coefs = [1 + generator.draw() % 63 for _ in range(count)]
-    message = [generator.draw() % 64 for _ in range(scms.message_places(map))]
-    base = draw_sent_base(generator)
     amplitude = draw_amplitude(generator)
     top, bottom = draw_gain(generator, amplitude)
-    Qc, Qm = draw_precisions(generator)
-    for d in damages:
-        p = generator.draw()
-        damage_bytes(d, p, map, coefs)
-        damage_message(d, p, message)
-    Qc, Qm = given_precisions(Qc, Qm, damages)
-    map_lent = lent(map, damages, MAP_LENGTH)
-    # K is counted in the map as lent, after the damages.
-    K = scms.message_places(map_lent)
-    # A symbol past those that were drawn is 0.
-    message_lent = (message + [0, 0])[:lent_length(K, damages, MESSAGE_LENGTH)]
+    Qc, Qm = precisions(generator)
     return dict(
         n=n,
-        map=map_lent,
-        coefs=lent(coefs, damages, COEFS_LENGTH),
-        message=message_lent,
-        base=damaged_base(base, damages, BASE),
-        amplitude=given_number(
-            amplitude, damages, AMPLITUDE, (0, 128, 257, 2 ** 32 - 1)),
-        top=given_number(top, damages, TOP, (0, 256, 257)),
-        bottom=given_number(bottom, damages, BOTTOM, (0, 256, 257)),
+        map=map_slice(generator, size),
+        coefs=coefs_slice(generator, count),
+        message=symbols_slice(generator, size),
+        base=sent_base(generator),
+        amplitude=amplitude,
+        top=top,
+        bottom=bottom,
         Qc=Qc,
-        Qm=given_number(Qm, damages, LARGE_QM, (261,)),
-        samples_length=lent_length(64 * size, damages, SAMPLES_LENGTH),
-        frame_length=lent_length(64 * size, damages, FRAME_LENGTH),
-        work_length=lent_length(65 * size, damages, WORK_LENGTH),
-        symbols_length=lent_length(size, damages, SYMBOLS_LENGTH),
-        report_length=lent_length(64 * size, damages, REPORT_LENGTH),
-        decoded_length=lent_length(K, damages, DECODED_LENGTH),
+        Qm=Qm,
+        samples=lent(generator, "samples", 64 * size),
+        frame=lent(generator, "frame", 64 * size),
+        work=lent(generator, "work", 65 * size),
+        symbols=lent(generator, "symbols", size),
+        report=lent(generator, "report", 64 * size),
+        text=lent(generator, "text", size),
     )
 
 
-def checksum(numbers):
-    """One number that depends on each of the numbers and on its place."""
-    total = 1
-    for number in numbers:
-        total = (31 * total + number) % 65521
-    return total
+def block(generator, n, damages):
+    """The record of one call."""
+    call = damaged(
+        generator, draw_call(generator, n), damages, ["message", "text"])
+    return [records.record("t", call)]
 
 
-def call_lines(call):
-    """The lines of one call."""
-    refusal, answer = linking.link(**call)
-    if refusal != scms.ACCEPTED:
-        # The samples are -7 everywhere before the call.
-        kept = checksum([-7 % 256] * call["samples_length"])
-        return [numbers_line("l", [refusal, kept] + [0] * 5)]
-    numbers = [
-        refusal,
-        answer.count,
-        0,
-        # A sample by its byte.
-        checksum([sample % 256 for sample in answer.samples]),
-        checksum(answer.frame),
-        checksum(answer.report),
-    ]
-    return [
-        numbers_line("l", numbers),
-        numbers_line("m", answer.message),
-        numbers_line("y", answer.symbols),
-    ]
+def chosen(generator):
+    """The damages of each damaged call."""
+    for i in range(ALONE):
+        yield [] if i == 0 else [DAMAGES[(i - 1) % len(DAMAGES)]]
+    yield from pairs(generator, DAMAGES, 2)
+    yield from length_pairs(generator, DAMAGES)
 
 
-def damage_of_kind(drawn, kind):
-    """The damage of this kind that a draw picks."""
-    first, count = KINDS[kind]
-    return first + drawn % count
-
-
-def draw_damages(generator, i):
-    """The damages of damaged call i: none and then each alone, one of each kind
-    in turn, and then each two kinds once.  Of two the one with the higher
-    refusal is mostly first."""
-    first = generator.draw()
-    second = generator.draw()
-    kind = i % len(KINDS)
-    if i < DAMAGES:
-        return [i, 0]
-    if i < ALONE:
-        return [damage_of_kind(first, kind), 0]
-    distance = (i - ALONE) // len(KINDS) + 1
-    other = (kind + distance) % len(KINDS)
-    return [damage_of_kind(first, other), damage_of_kind(second, kind)]
-
-
-def calls():
-    """The arguments of all calls."""
-    # From this state the premise of the noiseless statement holds in half of the
-    # calls that are taken, and each two refusals that can fit together do so.
+def blocks():
+    """The records of all cases."""
     generator = Generator(646)
     for i in range(TAKEN):
-        yield draw_call(generator, taken_layers(i), [0, 0])
-    for i in range(ALONE + PAIRS):
-        damages = draw_damages(generator, i)
-        n = generator.draw() % 4 + 1
-        n = given_number(n, damages, LAYERS, (0, 9, 257))
-        yield draw_call(generator, n, damages)
-
-
-def lines():
-    """The lines of all cases."""
-    for call in calls():
-        yield from call_lines(call)
+        yield block(generator, taken_layers(i), [])
+    for i in range(MORE):
+        yield block(generator, i % 4 + 1, [])
+    damages = chosen(generator)
+    for _ in range(ALONE + PAIRS):
+        yield block(generator, generator.draw() % 4 + 1, next(damages))

@@ -1,29 +1,18 @@
-"""Make the files that the program is run on, and the folders of the test
-programs in crates/, one for each way that it can end; and print the lines of
-these folders for crates.txt.
+"""The files that the program is run on, one pair of a sheet and a frame for
+each way that it can end, and what it prints on them.
 
-Each folder gets data/code.txt and data/frame.txt, either of them absent where
-the case says so; and stdout, which is what reading.py says that the program
-prints on them.  A folder ends_NAME also gets src/main.rt, which runs the
-program; the program itself, decode, is run on the worked files.  All files come
-from a fixed generator and are the same bytes in each run.  Where only one of
-the two files is at fault, the other is one that is taken.
+The program itself, decode, is run on the worked files.  The other pairs are in
+the folder endings: for each its name, the names of its two files, either of
+them absent where the case says so, and what reading.py says that the program
+prints.  All files come from a fixed generator and are the same bytes in each
+run.  Where only one of the two files is at fault, the other is one that is
+taken.
 """
-
-import pathlib
-import sys
-
-# Leave no compiled copies behind in the repository.
-sys.dont_write_bytecode = True
 
 import chips
 import reading
 
-from chip_cases import draw_base
-from decode_cases import draw_frame, draw_map, draw_word
-from draws import Generator
-
-CRATES = pathlib.Path(__file__).resolve().parents[2] / "crates"
+from draws import Generator, draw_base, draw_frame, draw_map, draw_word
 
 SEED = 12
 
@@ -37,12 +26,6 @@ MAGNITUDE = 20
 NOISE = 36
 TOP = 1
 BOTTOM = 30
-
-SOURCE = """// A way for the program to end: %s.
-fn main() {
-    files::run();
-}
-"""
 
 
 # --- Files that are taken ----------------------------------------------------
@@ -168,58 +151,59 @@ def without_zeros(place):
 
 # --- The cases ---------------------------------------------------------------
 
-# The folder of the program itself.
+# The folder of the program itself, and that of the other ways to end.
 PROGRAM = "decode"
+ENDINGS = "endings"
 
-# For each case its folder, the number that ends the run (0 for a listing), n,
+# For each case its name, the number that ends the run (0 for a listing), n,
 # what draws the two files, the changes to each of them, and its comment.
 CASES = (
     (PROGRAM, 0, 1, worked_files, [], [],
      "the listing of the worked sheet and frame, 2 places"),
-    ("ends_listing_256", 0, 8, noisy_files, [], [],
+    ("listing_256", 0, 8, noisy_files, [], [],
      "the listing of a noisy frame of 256 places"),
-    ("ends_sheet_short", 12, 1, draw_files, [instead(b"   9")], [],
+    ("sheet_short", 12, 1, draw_files, [instead(b"   9")], [],
      "12, since the sheet has fewer than 5 bytes"),
-    ("ends_sheet_first_line", 12, 2, draw_files, [with_line(0, b"  02")], [],
+    ("sheet_first_line", 12, 2, draw_files, [with_line(0, b"  02")], [],
      "12, since the sheet's first line has a leading zero"),
-    ("ends_sheet_line", 12, 2, draw_files, [with_line(-1, b"7   ")], [],
+    ("sheet_line", 12, 2, draw_files, [with_line(-1, b"7   ")], [],
      "12, since the number in the sheet's last line is left-justified"),
-    ("ends_sheet_long", 12, 1, draw_files, [with_more(b"\n")], [],
+    ("sheet_long", 12, 1, draw_files, [with_more(b"\n")], [],
      "12, since the sheet is too long by one byte"),
-    ("ends_sheet_layers", 1, 1, draw_files, [instead(b"   0\n   0\n")], [],
+    ("sheet_layers", 1, 1, draw_files, [instead(b"   0\n   0\n")], [],
      "1, since the sheet has n = 0"),
-    ("ends_sheet_layers_long", 1, 9, long_sheet, [], [],
+    ("sheet_layers_long", 1, 9, long_sheet, [], [],
      "1, since the sheet has n = 9, though it is longer than any that is "
      "taken"),
-    ("ends_sheet_map", 4, 2, draw_files, [with_line(4, b"   2")], [],
+    ("sheet_map", 4, 2, draw_files, [with_line(4, b"   2")], [],
      "4, since the sheet has a map byte 2"),
-    ("ends_sheet_frozen", 5, 2, draw_files, [all_frozen], [],
+    ("sheet_frozen", 5, 2, draw_files, [all_frozen], [],
      "5, since every place of the sheet is frozen"),
-    ("ends_sheet_coefficient", 6, 2, draw_files, [with_line(-1, b"  64")], [],
+    ("sheet_coefficient", 6, 2, draw_files, [with_line(-1, b"  64")], [],
      "6, since the sheet has a coefficient 64"),
-    ("ends_frame_short", 12, 2, draw_files, [], [cut_short(FRAME_LINE)],
+    ("frame_short", 12, 2, draw_files, [], [cut_short(FRAME_LINE)],
      "12, since the frame lacks its last line"),
-    ("ends_frame_long", 12, 1, draw_files, [], [with_more(b"\n")],
+    ("frame_long", 12, 1, draw_files, [], [with_more(b"\n")],
      "12, since the frame is too long by one byte"),
-    ("ends_frame_field", 12, 1, draw_files, [], [with_field(1, 20, b"\t\t\t7")],
+    ("frame_field", 12, 1, draw_files, [], [with_field(1, 20, b"\t\t\t7")],
      "12, since a field of the frame has tabs for blanks"),
-    ("ends_frame_cut", 12, 2, draw_files, [], [cut_short(1)],
+    ("frame_cut", 12, 2, draw_files, [], [cut_short(1)],
      "12, since the frame's last line lacks its line feed"),
-    ("ends_frame_penalty", 8, 2, draw_files, [],
+    ("frame_penalty", 8, 2, draw_files, [],
      [without_zeros(1), with_field(-1, 63, b"  32")],
      "8, since the frame has a penalty 32, though an earlier vector has no "
      "zero"),
-    ("ends_frame_no_zero", 9, 2, draw_files, [], [without_zeros(-1)],
+    ("frame_no_zero", 9, 2, draw_files, [], [without_zeros(-1)],
      "9, since the frame's last vector has no zero"),
-    ("ends_frame_last_line", 12, 1, draw_files, [],
+    ("frame_last_line", 12, 1, draw_files, [],
      [with_field(0, 0, b"  32"), with_field(-1, 63, b"  7\r")],
-     "12, since the frame's last line has a carriage return in a field, though\n"
-     "// its first line has a penalty 32"),
-    ("ends_no_sheet", 12, 1, draw_files, [no_file], [],
+     "12, since the frame's last line has a carriage return in a field, though "
+     "its first line has a penalty 32"),
+    ("no_sheet", 12, 1, draw_files, [no_file], [],
      "12, since there is no sheet"),
-    ("ends_no_frame", 12, 2, draw_files, [], [no_file],
+    ("no_frame", 12, 2, draw_files, [], [no_file],
      "12, since there is no frame"),
-    ("ends_sheet_long_256", 12, 8, draw_files, [with_more(b"\n")], [],
+    ("sheet_long_256", 12, 8, draw_files, [with_more(b"\n")], [],
      "12, since the sheet of a code of 256 places is too long by one byte"),
 )
 
@@ -234,31 +218,39 @@ def case_files(generator, n, draw, sheet_changes, frame_changes):
     return code, frame
 
 
-def write_file(path, data):
-    """Write a file, and the folders that it is in; None leaves none there."""
-    path.parent.mkdir(parents=True, exist_ok=True)
-    if data is None:
-        path.unlink(missing_ok=True)
-    else:
-        path.write_bytes(data)
-
-
-def main():
-    """Write the files of each case, and print the lines for crates.txt."""
+def cases():
+    """For each case its name, and the bytes of its two files."""
     generator = Generator(SEED)
     for name, number, n, draw, sheet_changes, frame_changes, comment in CASES:
         code, frame = case_files(
             generator, n, draw, sheet_changes, frame_changes)
         assert reading.returned(code, frame) == number
-        folder = CRATES / name
-        write_file(folder / "data" / "code.txt", code)
-        write_file(folder / "data" / "frame.txt", frame)
-        write_file(folder / "stdout", reading.run(code, frame))
-        if name != PROGRAM:
-            write_file(folder / "src" / "main.rt",
-                       (SOURCE % comment).encode("ascii"))
-            print("%s: files" % name)
+        yield name, code, frame
 
 
-if __name__ == "__main__":
-    main()
+def program_files(code, frame):
+    """The files of the program itself, by name."""
+    return {PROGRAM + "/data/code.txt": code,
+            PROGRAM + "/data/frame.txt": frame,
+            PROGRAM + "/stdout": reading.run(code, frame)}
+
+
+def files():
+    """The bytes of each file in crates/ by name; None for one that must be
+    absent."""
+    made = {}
+    names = b""
+    printed = b""
+    for name, code, frame in cases():
+        if name == PROGRAM:
+            made.update(program_files(code, frame))
+            continue
+        sheet_name = name + ".code.txt"
+        frame_name = name + ".frame.txt"
+        made[ENDINGS + "/data/" + sheet_name] = code
+        made[ENDINGS + "/data/" + frame_name] = frame
+        names += ("%s\n%s\n%s\n" % (name, sheet_name, frame_name)).encode()
+        printed += name.encode() + b"\n" + reading.run(code, frame)
+    made[ENDINGS + "/stdin"] = names
+    made[ENDINGS + "/stdout"] = printed
+    return made

@@ -1,19 +1,8 @@
-"""Make the cases of the readers and of the lines of a listing, and what the
-calls give for them.
+"""Records of the readers: sheets, frame lines, frame files fed line by line,
+and the lines of a listing.
 
-Writes crates/outside_reading/stdin, the inputs, and
-crates/outside_reading/stdout, a line for each of them, made by reading.py and
-decoding.py.  Both are the same bytes in each run.
-
-The inputs: first how many there are, then each with a head of four numbers,
-namely which call, two numbers for it and how many bytes follow, and the bytes.
-A number is two bytes, the higher one first.
-
-Lines: 's' with the number of the sheet reader's refusal or 0, n or 0, and
-checksums of the map and the coefficient buffer; 'l' with the number of the
-refusal of a frame line or 0 and a checksum of the output; 'f' with the verdict
-after each line of a frame file and a checksum of the output lent for it, and
-the verdict at the end; and the lines of a listing as they are.
+A frame file is a row of records, one for each line that is fed and one for its
+end; it counts as one case.
 """
 
 import pathlib
@@ -24,39 +13,19 @@ sys.dont_write_bytecode = True
 
 sys.path.insert(0, str(pathlib.Path(__file__).resolve().parents[1]))
 
+import calls
 import compare_program as damages
-import decoding
 import reading
+import records
 
-from decode_cases import draw_map
-from draws import Generator, code_sizes
-from link_cases import checksum
-from program_cases import (
-    CRATES,
-    FRAME_LINE,
-    SHEET_LINE,
-    draw_coefs,
-    write_file,
-)
-
-FOLDER = CRATES / "outside_reading"
+from draws import Generator, code_sizes, draw_map, pick
+from pieces import lent
+from program_cases import FRAME_LINE, SHEET_LINE, draw_coefs
 
 SEED = 257
 
-# The calls.
-SHEET = 1
-LINE = 2
-FILE = 3
-PLACE = 4
-NUMBER = 5
-
-# The longest input and the longest buffers that the test program has room for.
-MOST_BYTES = 16384
-MOST_MAP = 300
-MOST_COEFS = 1100
-
 # In place of the line whose output is short: no line.
-NO_LINE = 65535
+NO_LINE = None
 
 # The damages of compare_program.py: each of those to the form of either file
 # and of those to a sheet once; and groups, of each of which one is drawn.
@@ -99,7 +68,7 @@ OUTPUTS = (63, 65, 0)
 def damaged(generator, data, width, groups):
     """The data with one damage of each group."""
     for group in groups:
-        data = damages.pick(generator, group)(generator, data, width)
+        data = pick(generator, group)(generator, data, width)
     return data
 
 
@@ -116,24 +85,27 @@ def lent_length(needed, added):
     return 0 if added is None else needed + added
 
 
-def sheet_case(n, data, added):
-    """A case of the sheet reader, with buffers for n layers that are longer or
-    shorter by these."""
+def sheet_case(generator, n, data, added):
+    """A record of the sheet reader, with buffers for n layers that are longer
+    or shorter by these."""
     size, count = code_sizes(n)
-    return (SHEET, lent_length(size, added[0]), lent_length(count, added[1]),
-            data)
+    return [records.record("h", dict(
+        text=records.written(data),
+        map=lent(generator, "map", lent_length(size, added[0])),
+        coefs=lent(generator, "coefs", lent_length(count, added[1]))))]
 
 
 def small_layers(generator):
     """An n from 1 to 4, mostly below 4."""
-    return damages.pick(generator, (1, 1, 2, 2, 3, 3, 4))
+    return pick(generator, (1, 1, 2, 2, 3, 3, 4))
 
 
 def taken_sheets(generator):
     """Sheets that are taken: of each n from 1 to 8, and more of the small n."""
-    for i in range(40):
+    for i in range(200):
         n = i + 1 if i < 8 else small_layers(generator)
-        yield sheet_case(n, draw_sheet(generator, n), ROOMY[i % len(ROOMY)])
+        yield sheet_case(generator, n, draw_sheet(generator, n),
+                         ROOMY[i % len(ROOMY)])
 
 
 def short_sheets(generator):
@@ -145,7 +117,7 @@ def short_sheets(generator):
         n = 8 if i == 7 else small_layers(generator)
         data = damaged(generator, draw_sheet(generator, n), SHEET_LINE,
                        kinds[i % 4])
-        yield sheet_case(n, data, SHORT[i // 4])
+        yield sheet_case(generator, n, data, SHORT[i // 4])
 
 
 def broken_sheets(generator):
@@ -155,10 +127,10 @@ def broken_sheets(generator):
         data = draw_sheet(generator, n)
         at = 0
         if i % 2 == 1:
-            at = damages.pick(
+            at = pick(
                 generator, range(SHEET_LINE, len(data), SHEET_LINE))
         data = damages.break_at(data, at, damages.BREAKS[i // 2])
-        yield sheet_case(n, data, damages.pick(generator, ROOMY + SHORT))
+        yield sheet_case(generator, n, data, pick(generator, ROOMY + SHORT))
 
 
 def damaged_sheets(generator):
@@ -169,7 +141,7 @@ def damaged_sheets(generator):
         damage = (FORM + SHEET_NUMBERS)[i // 4]
         data = damage(generator, draw_sheet(generator, n), SHEET_LINE)
         lengths = SHORT if i % 4 == 3 and damage in FORM else ROOMY
-        yield sheet_case(n, data, damages.pick(generator, lengths))
+        yield sheet_case(generator, n, data, pick(generator, lengths))
 
 
 def twice_damaged_sheets(generator):
@@ -180,7 +152,7 @@ def twice_damaged_sheets(generator):
         data = damaged(generator, draw_sheet(generator, n), SHEET_LINE,
                        TWICE[i // 10])
         lengths = SHORT if i % 10 < 3 else ROOMY
-        yield sheet_case(n, data, damages.pick(generator, lengths))
+        yield sheet_case(generator, n, data, pick(generator, lengths))
 
 
 def limit_sheets(generator):
@@ -197,13 +169,14 @@ def limit_sheets(generator):
         line = first + (0, length - 1, generator.draw() % length)[i % 3]
         data = damages.put_number(
             draw_sheet(generator, n), SHEET_LINE * line, number)
-        yield sheet_case(n, data, damages.pick(generator, ROOMY))
+        yield sheet_case(generator, n, data, pick(generator, ROOMY))
 
 
 def first_lines(generator):
     """Sheets of a first line and little else."""
     for i, data in enumerate(FIRST_LINES):
-        yield sheet_case(1, data, ROOMY[0] if i % 2 == 0 else (None, None))
+        yield sheet_case(generator, 1, data,
+                         ROOMY[0] if i % 2 == 0 else (None, None))
 
 
 # --- Frame lines -------------------------------------------------------------
@@ -221,11 +194,19 @@ def draw_line(generator, mode):
         [draw_number(generator, mode) for _ in range(64)])
 
 
+def line_case(generator, length, data):
+    """A record of the call that reads one frame line, with an output of that
+    length."""
+    return [records.record("l", dict(
+        text=records.written(data),
+        frame=lent(generator, "frame", length)))]
+
+
 def formed_lines(generator):
-    """Lines of the form: 40 with an output of 64 numbers, 15 with another."""
-    for i in range(55):
-        length = 64 if i < 40 else OUTPUTS[i % 3]
-        yield (LINE, length, 0, draw_line(generator, i))
+    """Lines of the form: 140 with an output of 64 numbers, 15 with another."""
+    for i in range(155):
+        length = 64 if i < 140 else OUTPUTS[i % 3]
+        yield line_case(generator, length, draw_line(generator, i))
 
 
 def broken_lines(generator):
@@ -237,7 +218,8 @@ def broken_lines(generator):
         at = (0, any_field, 4 * 63)[i % 3]
         # A number of one digit, so that there is room before and after it.
         data = damages.put_number(data, at, generator.draw() % 10)
-        yield (LINE, 64, 0, damages.break_at(data, at, damages.BREAKS[i // 3]))
+        data = damages.break_at(data, at, damages.BREAKS[i // 3])
+        yield line_case(generator, 64, data)
 
 
 def damaged_lines(generator):
@@ -245,9 +227,9 @@ def damaged_lines(generator):
     64 numbers; then with another output."""
     for i in range(3 * len(FORM) + 15):
         length = 64 if i < 3 * len(FORM) else OUTPUTS[i % 3]
-        damage = FORM[i % len(FORM)]
-        yield (LINE, length, 0,
-               damage(generator, draw_line(generator, i), FRAME_LINE))
+        data = draw_line(generator, i)
+        data = FORM[i % len(FORM)](generator, data, FRAME_LINE)
+        yield line_case(generator, length, data)
 
 
 # --- Frame files -------------------------------------------------------------
@@ -262,15 +244,53 @@ def draw_file(generator, lines):
     return data
 
 
+def fed_record(generator, verdict, data, length):
+    """The record of one line that is fed."""
+    return records.record("f", dict(
+        verdict=verdict, text=records.written(data),
+        frame=lent(generator, "frame", length)))
+
+
+def end_record(verdict, left):
+    """The record of the end of a file."""
+    return records.record("g", dict(verdict=verdict, left=left))
+
+
+def verdict_after(verdict, data, length):
+    """The verdict after one line more."""
+    numbers, _ = calls.fed_line(
+        dict(verdict=verdict, text=list(data), frame=[0] * length))
+    return numbers[0]
+
+
+def file_case(generator, lines, short, data):
+    """The records of a frame file of so many lines; the output for the line
+    `short` has 63 numbers."""
+    found = []
+    verdict = 0
+    for i in range(lines):
+        part = data[FRAME_LINE * i:FRAME_LINE * (i + 1)]
+        length = 63 if i == short else 64
+        found.append(fed_record(generator, verdict, part, length))
+        verdict = verdict_after(verdict, part, length)
+    left = 1 if len(data) > FRAME_LINE * lines else 0
+    if short is NO_LINE:
+        # Fed line by line a file has the verdict that the whole of it has.
+        assert (calls.joined(verdict, 12 * left)
+                == reading.read_frame(data, lines)[0])
+    return found + [end_record(verdict, left)]
+
+
 def fed_files(generator):
     """Frame files of 1 to 4 lines: 60 with outputs of 64 numbers, then 20 in
-    which the output for one line has 63."""
-    for i in range(80):
+    which the output for one line has 63, and 60 that are taken."""
+    for i in range(140):
         lines = 1 + generator.draw() % 4
+        groups = FILES[i % len(FILES)] if i < 80 else ()
         data = damaged(generator, draw_file(generator, lines), FRAME_LINE,
-                       FILES[i % len(FILES)])
-        short = NO_LINE if i < 60 else generator.draw() % lines
-        yield (FILE, lines, short, data)
+                       groups)
+        short = generator.draw() % lines if 60 <= i < 80 else NO_LINE
+        yield file_case(generator, lines, short, data)
 
 
 def limit_files(generator):
@@ -283,7 +303,42 @@ def limit_files(generator):
         penalties[30] = 0
         data = damages.put_number(
             reading.frame_bytes(2 * penalties), at, penalty)
-        yield (FILE, 2, NO_LINE, data)
+        yield file_case(generator, 2, NO_LINE, data)
+
+
+# Verdicts before a line: each there is, and some that count as none.
+BEFORE = (0, 2, 12, 8, 9, 1, 3, 7, 10, 11, 13, 255)
+
+# Damages to the one line that is fed after each of them.
+LINES = ((), (NO_ZERO,), (PENALTY,), (FORM,), (NO_ZERO, PENALTY),
+         (PENALTY, FORM))
+
+
+def verdict_lines(generator):
+    """One line fed after each verdict: taken, and refused in each way; with an
+    output of 64 numbers and now and then of another length."""
+    for i in range(len(BEFORE) * len(LINES)):
+        data = damaged(generator, draw_file(generator, 1), FRAME_LINE,
+                       LINES[i // len(BEFORE)])
+        length = pick(generator, (64, 64, 64, 63, 65))
+        yield [fed_record(generator, BEFORE[i % len(BEFORE)], data, length)]
+
+
+def long_lines(generator):
+    """Lines fed with more bytes after them: each of them has a verdict without
+    these."""
+    for i in range(12):
+        data = damaged(generator, draw_file(generator, 1), FRAME_LINE,
+                       ((PENALTY,), (NO_ZERO,), ())[i % 3])
+        more = (b"\n", b" ", data)[i // 3 % 3]
+        yield [fed_record(generator, 0, data + more, 64)]
+
+
+def file_ends(generator):
+    """The end of a file for each verdict, with a byte left and without."""
+    for verdict in BEFORE:
+        for left in (0, 1):
+            yield [end_record(verdict, left)]
 
 
 # --- The lines of a listing --------------------------------------------------
@@ -312,13 +367,13 @@ def draw_held(generator, i, symbol):
     other = near_symbol(symbol)[(i + mode) % 4]
     held = [2 + generator.draw() % 8190 for _ in range(64)]
     least = generator.draw() % 2
-    limit = damages.pick(generator, HELD)
+    limit = pick(generator, HELD)
     if mode in (0, 2):
         held[symbol] = least
     if mode in (1, 2):
         held[other] = least
     if mode == 3:
-        own = damages.pick(generator, HELD) if i % 2 == 0 else limit
+        own = pick(generator, HELD) if i % 2 == 0 else limit
         held = [limit] * 64
         held[symbol] = own
     if mode == 4:
@@ -328,12 +383,13 @@ def draw_held(generator, i, symbol):
 
 
 def place_lines(generator):
-    """Lines of places; the bytes are the 64 numbers held."""
+    """Lines of places, with the 64 numbers held."""
     for i in range(5 * len(SYMBOLS)):
         symbol = SYMBOLS[i % len(SYMBOLS)]
         held = draw_held(generator, i, symbol)
-        yield (PLACE, PLACES[i // 4 % len(PLACES)], symbol,
-               b"".join(two_bytes(x) for x in held))
+        yield [records.record("i", dict(
+            place=PLACES[i // 4 % len(PLACES)], symbol=symbol,
+            frame=records.written(held, 4)))]
 
 
 def number_lines(generator):
@@ -342,142 +398,44 @@ def number_lines(generator):
         number = (generator.draw() * 65536 + generator.draw()) % 100000
         if i < len(NUMBERS):
             number = NUMBERS[i]
-        yield (NUMBER, number // 65536, number % 65536, b"")
+        yield [records.record("n", dict(number=number))]
 
 
-# --- The inputs --------------------------------------------------------------
+# --- Calls to be changed at will ---------------------------------------------
+
+def any_sheet_call(generator):
+    """A call of the sheet reader."""
+    n = generator.draw() % 3 + 1
+    size, count = code_sizes(n)
+    return dict(text=records.written(draw_sheet(generator, n)),
+                map=lent(generator, "map", size + generator.draw() % 3),
+                coefs=lent(generator, "coefs", count + generator.draw() % 3))
+
+
+def any_line_call(generator):
+    """A call that reads one frame line."""
+    data = draw_line(generator, generator.draw() % 4)
+    return dict(text=records.written(data),
+                frame=lent(generator, "frame", 64))
+
+
+def any_fed_call(generator):
+    """A call that is fed one line."""
+    return dict(verdict=0, text=records.written(draw_file(generator, 1)),
+                frame=lent(generator, "frame", 64))
+
+
+# --- All of them -------------------------------------------------------------
 
 GROUPS = (taken_sheets, short_sheets, broken_sheets, damaged_sheets,
           twice_damaged_sheets, limit_sheets, first_lines,
           formed_lines, broken_lines, damaged_lines,
-          fed_files, limit_files, place_lines, number_lines)
+          fed_files, limit_files, verdict_lines, long_lines, file_ends,
+          place_lines, number_lines)
 
 
-def two_bytes(number):
-    """A number as two bytes."""
-    return number.to_bytes(2, "big")
-
-
-def cases():
-    """All cases: the call, two numbers for it, and the bytes."""
+def blocks():
+    """The records of all cases."""
     generator = Generator(SEED)
-    return [case for group in GROUPS for case in group(generator)]
-
-
-def case_bytes(case):
-    """A case in the file of inputs."""
-    call, first, second, data = case
-    assert len(data) <= MOST_BYTES
-    return b"".join(
-        two_bytes(x) for x in (call, first, second, len(data))) + data
-
-
-# --- What is expected --------------------------------------------------------
-
-def bytes_before(length):
-    """What a buffer of bytes holds before a call."""
-    return [129 + i % 127 for i in range(length)]
-
-
-def numbers_before(length):
-    """What a buffer of numbers holds before a call."""
-    return [40000 + 251 * (i % 100) for i in range(length)]
-
-
-def over(buffer, written):
-    """A buffer with the numbers written at its start."""
-    return written + buffer[len(written):]
-
-
-def text_line(name, numbers):
-    """A line of a letter and numbers."""
-    return (" ".join([name] + [str(x) for x in numbers]) + "\n").encode("ascii")
-
-
-def sheet_line(map_length, coefs_length, data):
-    """The line of a sheet."""
-    assert map_length <= MOST_MAP and coefs_length <= MOST_COEFS
-    number, found = reading.read_sheet(data, map_length, coefs_length)
-    n, map, coefs = (0, [], []) if found is None else found
-    return text_line("s", [
-        number, n,
-        checksum(over(bytes_before(map_length), map)),
-        checksum(over(bytes_before(coefs_length), coefs))])
-
-
-def read_output(data, length):
-    """The refusal of a frame line, and the output after it."""
-    number, found = reading.read_frame_line(data, length)
-    return number, over(numbers_before(length), [] if found is None else found)
-
-
-def line_line(length, data):
-    """The line of a frame line."""
-    number, output = read_output(data, length)
-    return text_line("l", [number, checksum(output)])
-
-
-def verdict_so_far(data, lines, short):
-    """The verdict after so many lines were fed, whatever comes after them.
-
-    The paper has no call that is fed a file line by line with an output of
-    another length than 64.  It is read so: the first of 2, 12, 8 and 9 that one
-    of the lines gives.  So 2, once the line with the short output was fed; else
-    the verdict on a file that ends there.
-    """
-    if short < lines:
-        return reading.REFUSED_LENGTH
-    return reading.read_frame(data[:FRAME_LINE * lines], lines)[0]
-
-
-def file_line(lines, short, data):
-    """The line of a frame file.
-
-    What the outputs hold after a file that is refused is not in the paper.  It
-    is read so: each output is as the call that reads one line leaves it, also
-    where the verdict is 8 or 9.
-    """
-    numbers = []
-    for i in range(lines):
-        part = data[FRAME_LINE * i:FRAME_LINE * (i + 1)]
-        _, output = read_output(part, 63 if i == short else 64)
-        numbers += [verdict_so_far(data, i + 1, short), checksum(output)]
-    verdict = reading.read_frame(data, lines)[0]
-    if short < lines:
-        verdict = reading.REFUSED_LENGTH
-    return text_line("f", numbers + [verdict])
-
-
-def place_line(place, symbol, data):
-    """The line of a place in a listing."""
-    held = [int.from_bytes(data[i:i + 2], "big")
-            for i in range(0, len(data), 2)]
-    _, symbol, own, other = decoding.listing([symbol], held)[0]
-    return b"".join(
-        reading.five_columns(x) for x in (place, symbol, own, other)) + b"\n"
-
-
-def expected_line(case):
-    """What is printed for a case."""
-    call, first, second, data = case
-    if call == SHEET:
-        return sheet_line(first, second, data)
-    if call == LINE:
-        return line_line(first, data)
-    if call == FILE:
-        return file_line(first, second, data)
-    if call == PLACE:
-        return place_line(first, second, data)
-    return reading.five_columns(65536 * first + second) + b"\n"
-
-
-def main():
-    """Write the inputs and the lines."""
-    made = cases()
-    write_file(FOLDER / "stdin",
-               two_bytes(len(made)) + b"".join(case_bytes(x) for x in made))
-    write_file(FOLDER / "stdout", b"".join(expected_line(x) for x in made))
-
-
-if __name__ == "__main__":
-    main()
+    for group in GROUPS:
+        yield from group(generator)

@@ -181,6 +181,19 @@ module _ (qc : ℕ) (frame : List ℕ) (f : IsFrame qc frame) where
       let in-vector = z .within in
       zero-there (vectorAt frame i) (z .zero-at) (omega arith) (z .is-zero))
 
+-- and where neither fits, for no fewer places than the frame has, it is such a frame
+pub frame-of-rows : (qc places : ℕ) (frame : List ℕ) → length frame / 64 ≤ places
+    → llrsRow qc frame .1 ≡ false → zerosRow places frame .1 ≡ false → IsFrame qc frame
+frame-of-rows qc places frame few small zeros = record {
+  small = λ j l. none-within 0 (2 ^ qc - 1) 0 frame small j l .most;
+  zeros = λ i l.
+      let s : i < places = omega arith in
+      let z = some-zero (vectorAt frame i) (each-not (lacksZero frame) places zeros i s) in
+      let entries = long-at frame i l in
+      let in-vector = z .1 in
+      record { zero-at = z .0; within = omega arith; is-zero = z .2 };
+}
+
 -- ---- the rows as `size_refusal` and `content_refusal` try them
 
 -- the lengths of the buffers with the places that `place_count` gives
@@ -258,15 +271,7 @@ module _ (code : Code) (settings : Settings) (frame : List ℕ) (lent : Lent) wh
         report-long = false-equal (length (lent .report)) (64 * size) (rooms .1 .1 .1 .0);
         channel-precision = inside-within 1 5 qc (by-content .0);
         internal-precision = inside-within qc 13 (settings .qm) (by-content .1 .0);
-        is-frame = record {
-          small = λ j l. none-within 0 (2 ^ qc - 1) 0 frame (bytes .1 .1 .1 .0) j l .most;
-          zeros = λ i l.
-              let s : i < size = omega arith in
-              let z = some-zero (vectorAt frame i) (each-not (lacksZero frame) size (bytes .1 .1 .1 .1 .0) i s) in
-              let entries = long-at frame i l in
-              let in-vector = z .1 in
-              record { zero-at = z .0; within = omega arith; is-zero = z .2 };
-        };
+        is-frame = frame-of-rows qc size frame (let most : length frame / 64 ≤ size = omega arith in most) (bytes .1 .1 .1 .0) (bytes .1 .1 .1 .1 .0);
       }
 
   -- and the other way round

@@ -1,27 +1,23 @@
 -- Which numbers the parts of the program can print.
-use mathlib.Core.Path.{_≡_, sym, ap, _∙_, subst}
+use mathlib.Core.Path.{_≡_, sym, _∙_, subst}
 use mathlib.Core.List.{List, [], _∷_}
 use Prim.Native.Nat.{ℕ, _+_, _*_, _/_, _%_, _≤_, _<_}
 use native.Mathlib.Omega.{arith}
 use native.Mathlib.Nat.{le-of-eq}
-use lib.Dec.{lit≤}
 use lib.ListN.{length, getD}
 use Rattle.vector.specs.Frame.{IsFrame}
 use Rattle.vector.proofs.SliceLaws.{vector-entry}
 use Rattle.refusal.specs.Table.{OneOf}
-use Rattle.refusal.specs.Returned.{Returned}
 use Rattle.refusal.proofs.Among.{wider}
 use Rattle.polar_code.specs.Code.{Code}
-use Rattle.decoder_refusal.specs.Refusals.{Lent, settingsOf}
-use Rattle.decoder_refusal.proofs.RefusalLaws.{accepts}
-use Rattle.decoder.specs.Decode.{returned, decodeAnswer, Decoded}
-use Rattle.decoder.specs.declared.decoder.Answer.{Answer}
+use Rattle.program_listing.specs.Listing.{listingRefusal}
+use Rattle.program_listing.proofs.ListingLaws.{accepts}
 use Rattle.sheet.specs.CodeSheet.{SheetRead}
 use Rattle.sheet.specs.CodeSheet.{returned as sheetReturned}
 use Rattle.sheet.specs.declared.code_sheet.Answer.{Answer as SheetAnswer}
 use Rattle.sheet.proofs.SheetLaws.{sheet-numbers, number-read}
 use Rattle.files.specs.Printed.{Printed, FrameNumber, Penalties}
-use Rattle.files.specs.Parts.{Decoding}
+use Rattle.files.specs.Parts.{Given}
 
 -- a frame's numbers
 pub frame-printed : (r : ℕ) → FrameNumber r → Printed r
@@ -39,24 +35,16 @@ is-frame frame p whole = record {
   zeros = λ i l. p i l .1;
 }
 
--- so the decoder does not refuse it
-pub decoded-zero : {code : Code} {frame : List ℕ} {lent after : Lent} {a : Answer} → Decoding code frame lent
-    → Decoded code (settingsOf 5 13) frame lent after a → returned a .number ≡ 0
-unfolding decodeAnswer
-decoded-zero {code} {frame} {lent} g d =
-    let given = g .accepted .given in
-    let long = given .frame-long in
-    ap (λ (x : Returned). x .number) (d .answer)
-    ∙ accepts code (settingsOf 5 13) frame lent
-    (record {
-      is-code = given .is-code;
+-- so it is not refused, with a code and a buffer for its listing
+pub not-refused : {code : Code} {frame output : List ℕ} → Given code frame output → Penalties frame
+    → listingRefusal code frame output ≡ 0
+not-refused {code} {frame} {output} g p =
+    let long = g .frame-long in
+    accepts code frame output (record {
+      is-code = g .is-code;
       frame-long = long;
-      work-long = g .work-long;
-      symbols-long = g .symbols-long;
-      report-long = g .report-long;
-      channel-precision = record { least = lit≤ tt; most = lit≤ tt };
-      internal-precision = record { least = lit≤ tt; most = lit≤ tt };
-      is-frame = is-frame frame (g .accepted .penalties) (omega arith);
+      output-long = g .output-long;
+      is-frame = is-frame frame p (omega arith);
     })
 
 -- the sheet reader's, with buffers that have room for every code

@@ -1,5 +1,5 @@
 // The program: the code sheet, then the frame.
-use crate::decoding::run_frame;
+use crate::frame::run_frame;
 use crate::print::print_refusal;
 use crate::read::close;
 use crate::read::read_some;
@@ -7,8 +7,11 @@ use sheet::Answer;
 ghost use mathlib.Core.Path.{_≡_};
 ghost use Rattle.io.specs.Counts.{Counts};
 ghost use Rattle.sheet.specs.CodeSheet.{returned};
-ghost use Rattle.files.specs.Printed.{Printed, FrameNumber};
-ghost use Rattle.files.specs.Parts.{CodeRead};
+ghost use Rattle.files.specs.Printed.{Printed};
+
+// The bytes of a sheet that are read: one more than those of the longest sheet that is accepted. The first so many of a
+// longer one get the same verdict as all of it.
+const SHEET_BYTES: usize = 6406;
 
 // The number of an answer of the sheet reader: that of the refusal, 0 for a sheet that was accepted.
 fn refused_by(answer: Answer) -> u8
@@ -20,40 +23,31 @@ fn refused_by(answer: Answer) -> u8
     }
 }
 
-// Reads code.txt, as far as buf goes, and returns how many bytes were read: none where it can't be opened.
-fn read_code(buf: &mut [u8]) -> usize
+// Reads a file, as far as buf goes, and returns how many bytes were read: none where it can't be opened.
+fn read_code(name: &[u8], buf: &mut [u8]) -> usize
     ensures { λ r. ⌜ Counts r (now (buf .exit)) ⌝ }
 {
-    let fd = os::open_read(b"code.txt");
+    let fd = os::open_read(name);
     let got = read_some(fd, buf);
     close(fd);
     got
 }
 
-// Runs the rest of the program with the code in two buffers that are longer than needed.
-fn run_code(n: usize, map: &[u8], coefs: &[u8]) -> u8
-    requires { ⌜ CodeRead n (now map) (now coefs) ⌝ }
-    ensures { λ r. ⌜ FrameNumber r ⌝ }
-{
-    let size = polar_code::place_count(n);
-    let count = polar_code::kernel_count(n);
-    run_frame(n, &map[..size], &coefs[..count])
-}
-
-// The program: reads code.txt, a code sheet, and frame.txt, a frame file for that code, decodes the frame at Qc = 5 and
+// The program: reads a code sheet and a frame file for that code, by their names, decodes the frame at Qc = 5 and
 // Qm = 13 and prints the listing, or the number of the first refusal and nothing else. Returns 0 for a listing, or the
-// number that was printed. No sheet that is accepted has more than 6,405 bytes, and the first 6,406 of a longer one get
-// the same verdict as all of it.
-pub fn run() -> u8
+// number that was printed.
+pub fn run(code_name: &[u8], frame_name: &[u8]) -> u8
     ensures { λ r. ⌜ Printed r ⌝ }
 {
-    let mut bytes = [0u8; 6406];
+    let mut bytes = [0u8; SHEET_BYTES];
     let mut map = [0u8; 256];
     let mut coefs = [0u8; 1024];
-    let got = read_code(&mut bytes);
+    let got = read_code(code_name, &mut bytes);
     let answer = sheet::read_sheet(&bytes[..got], &mut map, &mut coefs);
     let Answer::Layers(n) = answer else {
         return print_refusal(refused_by(answer));
     };
-    run_code(n, &map, &coefs)
+    let size = polar_code::place_count(n);
+    let count = polar_code::kernel_count(n);
+    run_frame(frame_name, n, &map[..size], &coefs[..count])
 }

@@ -1,9 +1,14 @@
--- `run` meets its contract.
-use mathlib.Core.Path.{refl, _∙_, subst}
+-- `run` meets its contract: the parts of the two buffers that are lent are the code that was read.
+use mathlib.Core.Path.{_≡_, refl, sym, _∙_, subst}
 use mathlib.Core.List.{List}
-use Prim.Native.Nat.{ℕ}
+use Prim.Native.Nat.{ℕ, _^_}
+use native.Mathlib.Omega.{arith}
+use lib.ListN.{length, take}
+use lib.Seq.{length-take-le}
+use Rattle.polar_code.specs.Code.{codeOf, IsCode}
+use Rattle.polar_code.proofs.SizeLaws.{places-are, kernels-are}
 use Rattle.sheet.specs.CodeSheet.{SheetRead}
-use Rattle.sheet.proofs.SheetLaws.{code-read, map-there, coefs-there}
+use Rattle.sheet.proofs.SheetLaws.{code-read}
 use Rattle.files.proofs.PrintedLaws.{frame-printed, sheet-printed}
 use borrow.Author.Needs.{needs}
 use Rattle.files.proofs.program.run.Statement.{statement}
@@ -26,15 +31,39 @@ returns c =
     let read = to-read (told .before .before) in
     sheet-printed (read .read-sheet .ensures) refl refl (c .print-refusal .result) (c .print-refusal .ensures ∙ c .before .refused-by .ensures)
 
-run-code-requires : tie.Need-run-code-requires
-run-code-requires c κs =
-    let layers = c .before .before .before in
-    let read = to-read (layers .before .before) in
-    let accepted = subst (SheetRead _ _ _ (map-read read) (coefs-read read)) (layers .answer .given .1) (read .read-sheet .ensures) in
-    record { is-code = code-read accepted; map-room = map-there accepted; coefs-room = coefs-there accepted }
+-- the place after the sheet is read, from the one where both sizes are known
+abbrev sized-read : tie.After-kernel-count → tie.After-read-sheet
+sized-read c = to-read (c .before .before .before .before .before)
 
-returns-2 : tie.Need-returns-2
-returns-2 c = frame-printed (c .run-code .result) (c .run-code .ensures)
+-- the buffers keep their lengths
+map-long : (c : tie.After-read-sheet) → length (map-read c) ≡ 256
+map-long c = c .read-sheet .kept .1 .0
+
+coefs-long : (c : tie.After-read-sheet) → length (coefs-read c) ≡ 1024
+coefs-long c = c .read-sheet .kept .1 .1 .0
+
+slice-aggregate-run-frame : tie.Need-slice-aggregate-run-frame
+slice-aggregate-run-frame c =
+    let sizes = c .before in
+    sym (length-take-le _ (map-read (sized-read sizes)) (let few = sizes .before .place-count .ensures .1 in let long = map-long (sized-read sizes) in omega arith))
+
+slice-aggregate-run-frame-2 : tie.Need-slice-aggregate-run-frame-2
+slice-aggregate-run-frame-2 c =
+    let sizes = c .before .before in
+    sym (length-take-le _ (coefs-read (sized-read sizes)) (let few = sizes .kernel-count .ensures .1 in let long = coefs-long (sized-read sizes) in omega arith))
+
+run-frame-requires : tie.Need-run-frame-requires
+run-frame-requires c κs =
+    let sizes = c .before .before in
+    let layers = sizes .before .before .before in
+    let read = sized-read sizes in
+    let n = layers .answer .given .0 .0 in
+    let code = code-read (subst (SheetRead _ _ _ (map-read read) (coefs-read read)) (layers .answer .given .1) (read .read-sheet .ensures)) in
+    let most = code .layers .most in
+    let size = sizes .before .place-count .ensures .0 ∙ places-are n most in
+    let count = sizes .kernel-count .ensures .0 ∙ kernels-are n most in
+    subst (λ (k : ℕ). IsCode (codeOf n (take k (map-read read)) (take (sizes .kernel-count .result) (coefs-read read)))) (sym size)
+    (subst (λ (k : ℕ). IsCode (codeOf n (take (2 ^ n) (map-read read)) (take k (coefs-read read)))) (sym count) code)
 
 pub run-spec : {M : Type 1} → statement M
 run-spec =
@@ -43,6 +72,10 @@ run-spec =
     (λ c. search needs) (λ c κs. search needs) (λ c. search needs) (λ c. search needs) (λ c κs. search needs)
     (λ c κs. search needs)
     returns
-    (λ c. search needs) (λ c. search needs)
-    run-code-requires
-    returns-2)
+    (λ c κs. search needs) (λ c κs. search needs)
+    (λ c. search needs)
+    slice-aggregate-run-frame
+    (λ c. search needs)
+    slice-aggregate-run-frame-2
+    run-frame-requires
+    (λ c. frame-printed (c .run-frame .result) (c .run-frame .ensures)))

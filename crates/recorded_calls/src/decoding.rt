@@ -1,0 +1,167 @@
+// The calls that decode: the decoder, the round trip and the program's listing.
+use crate::input::ended;
+use crate::input::next_number;
+use crate::input::next_u32;
+use crate::print::print_bytes;
+use crate::print::print_count;
+use crate::print::print_number;
+use crate::print::print_samples;
+use crate::print::print_words;
+use crate::slices::LONGEST;
+use crate::slices::take_bytes;
+use crate::slices::take_samples;
+use crate::slices::take_words;
+
+// `decoder::decode`.
+pub(crate) fn run_decode(
+    map: &mut [u8],
+    coefs: &mut [u8],
+    frame: &mut [u16],
+    symbols: &mut [u8],
+) -> bool {
+    let mut work_store = [0u16; LONGEST];
+    let mut report_store = [0u16; LONGEST];
+    let n = next_number() as usize;
+    let map = take_bytes(map);
+    let coefs = take_bytes(coefs);
+    let qc = next_u32();
+    let qm = next_u32();
+    let frame = take_words(frame);
+    let work = take_words(&mut work_store);
+    let symbols = take_bytes(symbols);
+    let report = take_words(&mut report_store);
+    if !ended() {
+        return false;
+    }
+    print_count(decoder::decode(n, map, coefs, qc, qm, frame, work, symbols, report));
+    print_words(work);
+    print_bytes(symbols);
+    print_words(report);
+    true
+}
+
+// `program_listing::decode_listing`.
+pub(crate) fn run_listing(map: &mut [u8], coefs: &mut [u8], frame: &mut [u16]) -> bool {
+    let mut store = [0u8; 16384];
+    let n = next_number() as usize;
+    let map = take_bytes(map);
+    let coefs = take_bytes(coefs);
+    let frame = take_words(frame);
+    let output = take_bytes(&mut store);
+    if !ended() {
+        return false;
+    }
+    print_number(program_listing::decode_listing(n, map, coefs, frame, output) as u64);
+    print_bytes(output);
+    true
+}
+
+// What a round trip is given beside the code and the message.
+struct Link {
+    base: u64,
+    amplitude: u32,
+    top: u32,
+    bottom: u32,
+    qc: u32,
+    qm: u32,
+}
+
+// Reads that.
+fn next_link() -> Link {
+    let base = next_number();
+    let amplitude = next_u32();
+    let top = next_u32();
+    let bottom = next_u32();
+    let qc = next_u32();
+    let qm = next_u32();
+    Link {
+        base,
+        amplitude,
+        top,
+        bottom,
+        qc,
+        qm,
+    }
+}
+
+// `loopback::round_trip`, and its line.
+fn trip_line(
+    n: usize,
+    map: &[u8],
+    coefs: &[u8],
+    message: &[u8],
+    link: Link,
+    samples: &mut [i8],
+    frame: &mut [u16],
+    work: &mut [u16],
+    symbols: &mut [u8],
+    report: &mut [u16],
+    decoded: &mut [u8],
+) {
+    print_count(loopback::round_trip(
+        n,
+        map,
+        coefs,
+        message,
+        link.base,
+        link.amplitude,
+        link.top,
+        link.bottom,
+        link.qc,
+        link.qm,
+        samples,
+        frame,
+        work,
+        symbols,
+        report,
+        decoded,
+    ));
+    print_samples(samples);
+    print_words(frame);
+    print_words(work);
+    print_bytes(symbols);
+    print_words(report);
+    print_bytes(decoded);
+}
+
+// A record of it.
+pub(crate) fn run_round_trip(
+    map: &mut [u8],
+    coefs: &mut [u8],
+    samples: &mut [i8],
+    frame: &mut [u16],
+    symbols: &mut [u8],
+) -> bool {
+    let mut message_store = [0u8; 600];
+    let mut work_store = [0u16; LONGEST];
+    let mut report_store = [0u16; LONGEST];
+    let mut decoded_store = [0u8; 16384];
+    let n = next_number() as usize;
+    let map = take_bytes(map);
+    let coefs = take_bytes(coefs);
+    let message = take_bytes(&mut message_store);
+    let link = next_link();
+    let samples = take_samples(samples);
+    let frame = take_words(frame);
+    let work = take_words(&mut work_store);
+    let symbols = take_bytes(symbols);
+    let report = take_words(&mut report_store);
+    let decoded = take_bytes(&mut decoded_store);
+    if !ended() {
+        return false;
+    }
+    trip_line(
+        n,
+        map,
+        coefs,
+        message,
+        link,
+        samples,
+        frame,
+        work,
+        symbols,
+        report,
+        decoded,
+    );
+    true
+}

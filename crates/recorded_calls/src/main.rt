@@ -1,0 +1,99 @@
+// Recorded calls: the public calls on the records of the file stdin. A record names a call, its numbers, and its slices
+// with what they hold; for each a line is printed with the number answered, the values, and a checksum of each buffer
+// that was lent to be written. The file stdout has the lines that the outside program gives; both are made by
+// tools/outside/make.py, and tools/outside/records.py says what the form of a record is. A record that breaks it ends
+// the run with a line that says so.
+mod channel;
+mod decoding;
+mod input;
+mod print;
+mod reading;
+mod sending;
+mod slices;
+mod sums;
+mod values;
+
+use crate::decoding::run_decode;
+use crate::decoding::run_listing;
+use crate::decoding::run_round_trip;
+use crate::input::end_token;
+use crate::input::next_byte;
+use crate::print::end_line;
+use crate::print::print_broken;
+use crate::reading::run_end;
+use crate::reading::run_feed;
+use crate::reading::run_frame_line;
+use crate::reading::run_number_line;
+use crate::reading::run_place_line;
+use crate::reading::run_sheet;
+use crate::sending::run_channel;
+use crate::sending::run_demap;
+use crate::sending::run_encode;
+use crate::sending::run_part;
+use crate::sending::run_spread;
+use crate::slices::LONGEST;
+
+// The most records that a run makes.
+const MOST_RECORDS: usize = 1000000;
+
+// Runs the record whose first letter was read, and returns whether its form was kept. The buffers that are given keep what a record leaves for the next one.
+fn run_record(
+    letter: u8,
+    map: &mut [u8],
+    coefs: &mut [u8],
+    symbols: &mut [u8],
+    numbers: &mut [u64],
+    samples: &mut [i8],
+    frame: &mut [u16],
+) -> bool {
+    match letter {
+        b'e' => run_encode(map, coefs, symbols),
+        b's' => run_spread(symbols, numbers),
+        b'c' => run_channel(numbers, samples),
+        b'd' => run_demap(samples, frame),
+        b'p' => run_part(frame),
+        b'D' => run_decode(map, coefs, frame, symbols),
+        b't' => run_round_trip(map, coefs, samples, frame, symbols),
+        b'o' => run_listing(map, coefs, frame),
+        b'h' => run_sheet(map, coefs),
+        b'l' => run_frame_line(frame),
+        b'f' => run_feed(frame),
+        b'g' => run_end(),
+        b'i' => run_place_line(frame),
+        b'n' => run_number_line(),
+        _ => false,
+    }
+}
+
+// Runs all records.
+fn main() {
+    let mut map = [0u8; 600];
+    let mut coefs = [0u8; 1200];
+    let mut symbols = [0u8; 600];
+    let mut numbers = [0u64; 300];
+    let mut samples = [0i8; LONGEST];
+    let mut frame = [0u16; LONGEST];
+    let mut i: usize = 0;
+    while i < MOST_RECORDS {
+        let letter = next_byte();
+        if letter == 0 {
+            return;
+        }
+        end_token();
+        let kept = run_record(
+            letter,
+            &mut map,
+            &mut coefs,
+            &mut symbols,
+            &mut numbers,
+            &mut samples,
+            &mut frame,
+        );
+        i += 1;
+        if !kept {
+            print_broken(i);
+            return;
+        }
+        end_line();
+    }
+}

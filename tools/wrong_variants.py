@@ -1,0 +1,677 @@
+"""Try the recorded calls on wrong variants of the outside rules.
+
+Each variant is one replacement in one file of a copy of tools/outside.  The
+stored records are worked out with it and compared with what is stored as
+expected, up to the first line that differs.  A variant for which none differs
+is not seen: the records would let that mistake pass.
+"""
+
+import pathlib
+import shutil
+import subprocess
+import sys
+import tempfile
+
+# Leave no compiled copies behind in the repository.
+sys.dont_write_bytecode = True
+
+TOOLS = pathlib.Path(__file__).resolve().parent
+STORED = TOOLS.parent / "crates" / "recorded_calls"
+
+# How many seconds one variant may take.
+TIME_LIMIT = 900
+
+SCMS = "scms.py"
+CHIPS = "chips.py"
+DECODING = "decoding.py"
+LINKING = "linking.py"
+READING = "reading.py"
+CALLS = "calls.py"
+
+
+# --- Refusals in another order -----------------------------------------------
+
+def order(name, file, first, second):
+    """A variant in which the second of two conditions is tried first."""
+    return (name, file, first + second, second + first)
+
+
+MAP_4 = """    if not map_bytes_are_valid(map):
+        return REFUSED_MAP_BYTE
+"""
+NONE_5 = """    if message_places(map) == 0:
+        return REFUSED_NO_MESSAGE_PLACE
+"""
+COEFFICIENT_6 = """    if not coefficients_are_valid(coefs):
+        return REFUSED_COEFFICIENT
+"""
+SYMBOL_7 = """    if not symbols_are_valid(message):
+        return REFUSED_SYMBOL
+"""
+PRECISION_3 = """    if not precisions_are_valid(Qc, Qm):
+        return REFUSED_PRECISION
+"""
+PENALTY_8 = """    if not penalties_are_valid(frame, Qc):
+        return REFUSED_PENALTY
+"""
+NO_ZERO_9 = """    if not vectors_have_zeros(N, frame):
+        return REFUSED_NO_ZERO
+"""
+BASE_10 = """    if equals_itself_turned_by_32(base):
+        return 10
+"""
+SPREAD_7 = """    for symbol in symbols:
+        if symbol > 63:
+            return 7
+"""
+WEIGH_3 = """    if Qc < 1 or Qc > 5:
+        return 3
+"""
+WEIGH_11 = """    if top == 0 or top > 255 or bottom == 0 or bottom > 255:
+        return 11
+"""
+LINK_7 = """    if not symbols_are_valid(message):
+        return 7
+"""
+LINK_11 = """    if top < 1 or top > 255 or bottom < 1 or bottom > 255:
+        return 11
+"""
+LINK_19 = """    if amplitude < 1 or amplitude > 127:
+        return 19
+"""
+SHEET_FORM = """    numbers = sheet_numbers(data, 1 + N + coefs_needed)
+    if numbers is None:
+        return (REFUSED_FORM, None)
+"""
+SHEET_2 = """    if map_length < N or coefs_length < coefs_needed:
+        return (REFUSED_LENGTH, None)
+"""
+SHEET_4 = """    if not map_bytes_are_valid(map):
+        return (REFUSED_MAP_BYTE, None)
+"""
+SHEET_5 = """    if message_places(map) == 0:
+        return (REFUSED_NO_MESSAGE_PLACE, None)
+"""
+SHEET_6 = """    if not coefficients_are_valid(coefs):
+        return (REFUSED_COEFFICIENT, None)
+"""
+LINE_2 = """    if output_length != 64:
+        return (REFUSED_LENGTH, None)
+"""
+LINE_257 = """    if len(data) != 257:
+        return (REFUSED_FORM, None)
+"""
+FILE_LONG = """    if len(data) > 257 * N:
+        return (REFUSED_FORM, None)
+"""
+FILE_8 = """    if not penalties_are_valid(frame, PROGRAM_QC):
+        return (REFUSED_PENALTY, None)
+"""
+FILE_9 = """    if not vectors_have_zeros(N, frame):
+        return (REFUSED_NO_ZERO, None)
+"""
+ENCODE_LENGTH_2 = """    if codeword_length != N:
+        return REFUSED_LENGTH
+"""
+REPORT_LENGTH_2 = """    if report_length != 64 * N:
+        return REFUSED_LENGTH
+"""
+LINK_LENGTH_2 = """    if decoded_length != K:
+        return 2
+"""
+LINK_3 = """    if not precisions_are_valid(Qc, Qm):
+        return 3
+"""
+LINK_4 = """    if not map_bytes_are_valid(map):
+        return 4
+"""
+LINK_5 = """    if K == 0:
+        return 5
+"""
+LINK_6 = """    if not coefficients_are_valid(coefs):
+        return 6
+"""
+
+ORDERS = [
+    order("encoder: 4 before 2", SCMS, ENCODE_LENGTH_2, MAP_4),
+    order("encoder: 5 before 4", SCMS, MAP_4, NONE_5),
+    order("encoder: 6 before 5", SCMS, NONE_5, COEFFICIENT_6),
+    order("encoder: 7 before 6", SCMS, COEFFICIENT_6, SYMBOL_7),
+    order("spreading: 10 before 7", CHIPS, SPREAD_7, BASE_10),
+    order("weighing: 10 before 3", CHIPS, WEIGH_3, BASE_10),
+    order("weighing: 11 before 10", CHIPS, BASE_10, WEIGH_11),
+    order("decoder: 3 before 2", DECODING, REPORT_LENGTH_2, PRECISION_3),
+    order("decoder: 4 before 3", DECODING, PRECISION_3, MAP_4),
+    order("decoder: 5 before 4", DECODING, MAP_4, NONE_5),
+    order("decoder: 6 before 5", DECODING, NONE_5, COEFFICIENT_6),
+    order("decoder: 8 before 6", DECODING, COEFFICIENT_6, PENALTY_8),
+    order("decoder: 9 before 8", DECODING, PENALTY_8, NO_ZERO_9),
+    order("round trip: 3 before 2", LINKING, LINK_LENGTH_2, LINK_3),
+    order("round trip: 4 before 3", LINKING, LINK_3, LINK_4),
+    order("round trip: 5 before 4", LINKING, LINK_4, LINK_5),
+    order("round trip: 6 before 5", LINKING, LINK_5, LINK_6),
+    order("round trip: 7 before 6", LINKING, LINK_6, LINK_7),
+    order("round trip: 10 before 7", LINKING, LINK_7, BASE_10),
+    order("round trip: 11 before 10", LINKING, BASE_10, LINK_11),
+    order("round trip: 19 before 11", LINKING, LINK_11, LINK_19),
+    order("sheet: 2 before 12", READING, SHEET_FORM, SHEET_2),
+    order("sheet: 5 before 4", READING, SHEET_4, SHEET_5),
+    order("sheet: 6 before 5", READING, SHEET_5, SHEET_6),
+    order("frame line: 12 before 2", READING, LINE_2, LINE_257),
+    order("frame file: 8 before 12", READING, FILE_LONG, FILE_8),
+    order("frame file: 9 before 8", READING, FILE_8, FILE_9),
+]
+
+
+# --- Field, transform and encoder --------------------------------------------
+
+ENCODER = [
+    ("a^6 = a^5 + 1", SCMS, "(1 << (k - 5))", "(1 << (k - 1))"),
+    ("a^6 = a^3 + 1", SCMS, "(1 << (k - 5))", "(1 << (k - 3))"),
+    ("encoder: distances of 000", SCMS, "distance = 2 ** (n - l)",
+     "distance = 2 ** (l - 1)"),
+    ("encoder: layer 1 first", SCMS, "for l in range(n, 0, -1):",
+     "for l in range(1, n + 1):"),
+    ("encoder: coefficients of layer n first", SCMS,
+     "h = coefs[(l - 1) * (N // 2) + t]", "h = coefs[(n - l) * (N // 2) + t]"),
+    ("encoder: h on both outputs", SCMS, "x[theta] = gf_sum(p, r)",
+     "x[theta] = gf_sum(p, gf_product(h, r))"),
+    ("encoder: no coefficient", SCMS, "x[phi] = gf_product(h, r)",
+     "x[phi] = r"),
+    ("n = 9 is taken", SCMS, "1 <= n <= 8", "1 <= n <= 9"),
+    ("n = 0 is taken", SCMS, "1 <= n <= 8", "0 <= n <= 8"),
+    ("n = 8 is refused", SCMS, "1 <= n <= 8", "1 <= n <= 7"),
+    ("n is cut to a byte", SCMS, "1 <= n <= 8", "1 <= n % 256 <= 8"),
+    ("a map byte 2 is taken", SCMS, "if byte > 1:", "if byte > 2:"),
+    ("a map byte 255 is taken", SCMS, "if byte > 1:", "if 1 < byte < 255:"),
+    ("a coefficient 0 is taken", SCMS, "if h == 0 or h > 63:", "if h > 63:"),
+    ("a coefficient 64 is taken", SCMS, "if h == 0 or h > 63:",
+     "if h == 0 or h > 64:"),
+    ("a coefficient 63 is refused", SCMS, "if h == 0 or h > 63:",
+     "if h == 0 or h > 62:"),
+    ("encoder: a symbol 64 is taken", SCMS, "if symbol >= FIELD_SIZE:",
+     "if symbol > FIELD_SIZE:"),
+    ("encoder: a longer message is taken", SCMS,
+     "if len(message) != message_places(map):",
+     "if len(message) < message_places(map):"),
+    ("encoder: a longer codeword buffer is taken", SCMS,
+     "if codeword_length != N:", "if codeword_length < N:"),
+    ("encoder: a longer map is taken", SCMS, "if len(map) != N:",
+     "if len(map) < N:"),
+    ("encoder: 5 is not tried", SCMS, NONE_5, ""),
+    ("encoder: message in falling order", SCMS, "u.append(message[taken])",
+     "u.append(message[-1 - taken])"),
+    ("encoder: a frozen place is 1", SCMS, "u.append(0)", "u.append(1)"),
+    ("encoder: a refusal changes the buffer", SCMS,
+     "return (refusal, None)", "return (refusal, [0] * codeword_length)"),
+]
+
+
+# --- Chips and penalties -----------------------------------------------------
+
+CHIP = [
+    ("rotation the other way", CHIPS, "return chip(base, (k + s) % 64)",
+     "return chip(base, (k - s) % 64)"),
+    ("chips sent in reverse", CHIPS, "chip_of_symbol(base, s, k) * 2 ** k",
+     "chip_of_symbol(base, s, k) * 2 ** (63 - k)"),
+    ("the sign of a chip", CHIPS, "    if sample < 0:\n        return 1\n",
+     "    if sample > 0:\n        return 1\n"),
+    ("-128 has magnitude 127", CHIPS, "return -sample",
+     "return min(-sample, 127)"),
+    ("-128 has magnitude 0", CHIPS, "return -sample",
+     "return -sample % 128"),
+    ("agreeing chips are weighed", CHIPS,
+     "if hard_chip(sample) != chip_of_symbol",
+     "if hard_chip(sample) == chip_of_symbol"),
+    ("weighing: each differing chip counts 1", CHIPS,
+     "total = total + magnitude(sample)", "total = total + 1"),
+    ("weighing: the least is not subtracted", CHIPS,
+     "((raw[s] - least) * top)", "(raw[s] * top)"),
+    ("weighing: the least after the gain", CHIPS,
+     "((raw[s] - least) * top) // bottom",
+     "raw[s] * top // bottom - least * top // bottom"),
+    ("weighing: rounding up", CHIPS, "((raw[s] - least) * top) // bottom",
+     "-((least - raw[s]) * top // bottom)"),
+    ("weighing: rounding to the nearest", CHIPS,
+     "((raw[s] - least) * top) // bottom",
+     "(2 * (raw[s] - least) * top + bottom) // (2 * bottom)"),
+    ("weighing: the gain upside down", CHIPS,
+     "((raw[s] - least) * top) // bottom",
+     "((raw[s] - least) * bottom) // top"),
+    ("weighing: the cap before the gain", CHIPS,
+     "((raw[s] - least) * top) // bottom",
+     "min(raw[s] - least, cap) * top // bottom"),
+    ("weighing: the cap is 2^Qc", CHIPS, "cap = 2 ** Qc - 1",
+     "cap = 2 ** Qc"),
+    ("weighing: the cap is 31", CHIPS, "cap = 2 ** Qc - 1", "cap = 31"),
+    ("base: turned by 16", CHIPS, "chip(base, (k + 32) % 64)",
+     "chip(base, (k + 16) % 64)"),
+    ("base: the lower 16 chips alone", CHIPS,
+     """    for k in range(64):
+        if chip(base, k) != chip""",
+     """    for k in range(16):
+        if chip(base, k) != chip"""),
+    ("spreading: no symbols are taken", CHIPS, "if len(symbols) < 1 or",
+     "if"),
+    ("spreading: 256 symbols are refused", CHIPS, "len(symbols) > 256",
+     "len(symbols) > 255"),
+    ("spreading: 257 symbols are taken", CHIPS, "len(symbols) > 256",
+     "len(symbols) > 257"),
+    ("spreading: a symbol 64 is taken", CHIPS, "if symbol > 63:",
+     "if symbol > 64:"),
+    ("spreading: a longer buffer is taken", CHIPS,
+     "if output_length != len(symbols):", "if output_length < len(symbols):"),
+    ("spreading: 10 is not tried", CHIPS,
+     SPREAD_7 + BASE_10, SPREAD_7),
+    ("spreading: a refusal changes the buffer", CHIPS,
+     """    number = spread_refusal(base, symbols, output_length)
+    if number != 0:
+        return number, None
+""",
+     """    number = spread_refusal(base, symbols, output_length)
+    if number != 0:
+        return number, [0] * output_length
+"""),
+    ("weighing: no samples are taken", CHIPS, "if len(samples) // 64 < 1 or",
+     "if"),
+    ("weighing: 256 symbols are refused", CHIPS, "len(samples) // 64 > 256",
+     "len(samples) // 64 > 255"),
+    ("weighing: 257 symbols are taken", CHIPS, "len(samples) // 64 > 256",
+     "len(samples) // 64 > 257"),
+    ("weighing: a part of a symbol is dropped", CHIPS,
+     "    if len(samples) % 64 != 0:\n        return 2\n", ""),
+    ("weighing: a longer frame is taken", CHIPS,
+     "if output_length != len(samples):", "if output_length < len(samples):"),
+    ("weighing: Qc = 6 is taken", CHIPS, "Qc > 5", "Qc > 6"),
+    ("weighing: Qc = 0 is taken", CHIPS, "Qc < 1 or ", ""),
+    ("weighing: top 0 is taken", CHIPS, "if top == 0 or", "if"),
+    ("weighing: top 256 is taken", CHIPS, "top > 255", "top > 256"),
+    ("weighing: bottom 256 is taken", CHIPS, "bottom > 255", "bottom > 256"),
+    ("weighing: bottom 255 is refused", CHIPS, "bottom > 255",
+     "bottom > 254"),
+    ("weighing: a refusal changes the frame", CHIPS,
+     """Qc, output_length)
+    if number != 0:
+        return number, None
+""",
+     """Qc, output_length)
+    if number != 0:
+        return number, [0] * output_length
+"""),
+    ("part: of a slice that is not whole vectors", CHIPS,
+     "    if len(penalties) % 64 != 0:\n        return []\n", ""),
+    ("part: the place before", CHIPS,
+     "return penalties[64 * place:64 * place + 64]",
+     "return penalties[64 * (place - 1):][:64]"),
+    ("part: the last place is outside", CHIPS,
+     "place >= len(penalties) // 64", "place >= len(penalties) // 64 - 1"),
+]
+
+
+# --- Decoder -----------------------------------------------------------------
+
+DECODER = [
+    ("check node: no coefficient", DECODING,
+     "phi_part = [at_phi[gf_product(h, c)]", "phi_part = [at_phi[c]"),
+    ("check node: h on b too", DECODING,
+     "min(at_theta[gf_sum(b, c)] + phi_part[c]",
+     "min(at_theta[gf_sum(b, gf_product(h, c))] + phi_part[c]"),
+    ("check node: the larger in place of the sum", DECODING,
+     "min(at_theta[gf_sum(b, c)] + phi_part[c]",
+     "min(max(at_theta[gf_sum(b, c)], phi_part[c])"),
+    ("check node: c = 0 is left out", DECODING,
+     """phi_part[c]
+                         for c in range(FIELD_SIZE)))""",
+     """phi_part[c]
+                         for c in range(1, FIELD_SIZE)))"""),
+    ("check node: c = 63 is left out", DECODING,
+     """phi_part[c]
+                         for c in range(FIELD_SIZE)))""",
+     """phi_part[c]
+                         for c in range(FIELD_SIZE - 1)))"""),
+    ("check node: capped at 2^Qc - 1 of 5", DECODING,
+     "min(at_theta[gf_sum(b, c)] + phi_part[c]",
+     "min(min(31, at_theta[gf_sum(b, c)] + phi_part[c])"),
+    ("variable node: u is not used", DECODING, "at_theta[gf_sum(u, c)]",
+     "at_theta[c]"),
+    ("variable node: no coefficient", DECODING,
+     "+ at_phi[gf_product(h, c)])", "+ at_phi[c])"),
+    ("variable node: h divides", DECODING,
+     "sums.append(at_theta[gf_sum(u, c)] + at_phi[gf_product(h, c)])",
+     "sums.append(at_theta[gf_sum(u, gf_product(h, c))] + at_phi[c])"),
+    ("variable node: clipped before the least is subtracted", DECODING,
+     "sums.append(at_theta[gf_sum(u, c)] + at_phi[gf_product(h, c)])",
+     "sums.append(min(2 ** Qm - 1,\n"
+     "            at_theta[gf_sum(u, c)] + at_phi[gf_product(h, c)]))"),
+    ("variable node: the least is not subtracted", DECODING,
+     "penalty = sums[c] - least", "penalty = sums[c]"),
+    ("variable node: not clipped, only counted", DECODING,
+     "            penalty = top\n            clipped", "            clipped"),
+    ("variable node: the cap is 2^Qm", DECODING, "top = 2 ** Qm - 1",
+     "top = 2 ** Qm"),
+    ("count: an entry at the cap counts", DECODING, "if penalty > top:",
+     "if penalty >= top:"),
+    ("count: nodes, not entries", DECODING, "clipped = clipped + 1",
+     "clipped = 1"),
+    ("count: layer n alone", DECODING, "clipped = clipped + more",
+     "clipped = clipped + (more if l == n else 0)"),
+    ("count: layer 1 alone", DECODING, "clipped = clipped + more",
+     "clipped = clipped + (more if l == 1 else 0)"),
+    ("count: not those that feed a frozen place", DECODING,
+     "count = count + work_out_layer(n, coefs, Qm, held, symbols, l)",
+     "more = work_out_layer(n, coefs, Qm, held, symbols, l)\n"
+     "            count = count + (more if map[place] == 0 else 0)"),
+    ("u is the symbol decided", DECODING,
+     "u = symbols_before_layer(n, coefs, decided, l)", "u = decided"),
+    ("u without the coefficients", DECODING,
+     "                x[phi] = gf_product(h, r)",
+     "                x[phi] = r"),
+    ("decoder: coefficients of layer n first", DECODING,
+     "h = coefs[(l - 1) * (N // 2) + t]", "h = coefs[(n - l) * (N // 2) + t]"),
+    ("decision: the last value wins", DECODING,
+     "return penalties.index(min(penalties))",
+     "return 63 - penalties[::-1].index(min(penalties))"),
+    ("decision: a frozen place is decided", DECODING, "if byte == 1:",
+     "if byte == 2:"),
+    ("decision: the largest penalty wins", DECODING,
+     "return penalties.index(min(penalties))",
+     "return penalties.index(max(penalties))"),
+    ("later frozen places are 0 in the metric", DECODING,
+     "count = count + work_out_layer(n, coefs, Qm, held, symbols, l)",
+     "count = count + work_out_layer(n, coefs, Qm, held, symbols, l)\n"
+     "            if l == n and place % 2 == 0 and map[place + 1] == 1:\n"
+     "                least = min(held[n - 1][place])\n"
+     "                held[n][place] = [\n"
+     "                    x - least for x in held[n - 1][place]]"),
+    ("report: zeros at frozen places", DECODING,
+     "report.extend(held[n][place])",
+     "report.extend(held[n][place] if map[place] == 0 else [0] * 64)"),
+    ("report: the frame's own penalties", DECODING,
+     "report.extend(held[n][place])", "report.extend(held[0][place])"),
+    ("place 0 alone is worked out", DECODING,
+     "symbols.append(decision(map[place], held[n][place]))",
+     "symbols.append(\n"
+     "            decision(map[place], held[n][place]) if place == 0 else 0)"),
+    ("Qm = Qc is refused", DECODING, "Qc <= Qm <= 13", "Qc < Qm <= 13"),
+    ("Qm = 14 is taken", DECODING, "Qc <= Qm <= 13", "Qc <= Qm <= 14"),
+    ("Qm = 13 is refused", DECODING, "Qc <= Qm <= 13", "Qc <= Qm <= 12"),
+    ("Qm below Qc is taken", DECODING, "Qc <= Qm <= 13", "1 <= Qm <= 13"),
+    ("decoder: Qc = 6 is taken", DECODING, "1 <= Qc <= 5", "1 <= Qc <= 6"),
+    ("decoder: Qc = 0 is taken", DECODING, "1 <= Qc <= 5", "0 <= Qc <= 5"),
+    ("decoder: a penalty 2^Qc is taken", DECODING,
+     "if penalty > 2 ** Qc - 1:", "if penalty > 2 ** Qc:"),
+    ("decoder: a penalty 31 is taken at each Qc", DECODING,
+     "if penalty > 2 ** Qc - 1:", "if penalty > 31:"),
+    ("decoder: 9 but for the last vector", DECODING,
+     """    for place in range(N):
+        if 0 not in""",
+     """    for place in range(max(N - 1, 1)):
+        if 0 not in"""),
+    ("decoder: 9 but for the first vector", DECODING,
+     """    for place in range(N):
+        if 0 not in""",
+     """    for place in range(1 if N > 1 else 0, N):
+        if 0 not in"""),
+    ("decoder: a longer work buffer is taken", DECODING,
+     "if work_length != 65 * N:", "if work_length < 65 * N:"),
+    ("decoder: a shorter work buffer is taken", DECODING,
+     "if work_length != 65 * N:", "if work_length > 65 * N:"),
+    ("decoder: a longer report is taken", DECODING,
+     "if report_length != 64 * N:", "if report_length < 64 * N:"),
+    ("decoder: a longer frame is taken", DECODING,
+     "if len(frame) != 64 * N:", "if len(frame) < 64 * N:"),
+    ("decoder: longer symbols are taken", DECODING,
+     "if symbols_length != N:", "if symbols_length < N:"),
+    ("decoder: 5 is not tried", DECODING, NONE_5, ""),
+    ("decoder: a refusal changes the symbols", DECODING,
+     "return (refusal, None, None, None)",
+     "return (refusal, [0] * symbols_length, None, None)"),
+    ("decoder: a refusal changes the report", DECODING,
+     "return (refusal, None, None, None)",
+     "return (refusal, None, [0] * report_length, None)"),
+    ("listing: the symbol's own among the others", DECODING,
+     "others = penalties[:symbol] + penalties[symbol + 1:]",
+     "others = penalties"),
+    ("listing: own and other in each other's place", DECODING,
+     "penalties[symbol], min(others)))", "min(others), penalties[symbol]))"),
+]
+
+
+# --- Round trip --------------------------------------------------------------
+
+TRIP = [
+    ("round trip: chip 1 is positive", LINKING,
+     "            if chip(number, k) == 0:\n",
+     "            if chip(number, k) == 1:\n"),
+    ("round trip: amplitude 128 is taken", LINKING, "amplitude > 127",
+     "amplitude > 128"),
+    ("round trip: amplitude 127 is refused", LINKING, "amplitude > 127",
+     "amplitude > 126"),
+    ("round trip: amplitude 0 is taken", LINKING,
+     "    if amplitude < 1 or amplitude > 127:\n",
+     "    if amplitude < 0 or amplitude > 127:\n"),
+    ("round trip: amplitude is cut to a byte", LINKING,
+     "    if amplitude < 1 or amplitude > 127:\n",
+     "    if not 1 <= amplitude % 256 <= 127:\n"),
+    ("round trip: 19 is not tried", LINKING, LINK_19, ""),
+    ("round trip: top 256 is taken", LINKING,
+     "    if top < 1 or top > 255 or", "    if top < 1 or top > 256 or"),
+    ("round trip: all places are the message", LINKING,
+     "        if map[place] == 0:\n            message.append",
+     "        if len(message) < list(map).count(0):\n"
+     "            message.append"),
+    ("round trip: the message sent is answered", LINKING,
+     "decoded = message_of(map, symbols)", "decoded = list(message)"),
+    ("round trip: a refusal changes the buffers", LINKING,
+     """    if refusal != 0:
+        return (refusal, None)
+""",
+     """    if refusal != 0:
+        return (refusal, Answer([0] * samples_length, [], [], [], 0, []))
+"""),
+]
+
+
+# --- Readers and program -----------------------------------------------------
+
+READER = [
+    ("leading zeros are taken", READING,
+     "if len(digits) > 1 and digits[0] == DIGIT_0:", "if False:"),
+    ("a number 0 is refused", READING,
+     "if len(digits) > 1 and digits[0] == DIGIT_0:",
+     "if digits[0] == DIGIT_0:"),
+    ("a field of blanks is 0", READING,
+     "    if len(digits) == 0:\n        return None\n",
+     "    if len(digits) == 0:\n        return 0\n"),
+    ("a tab is a blank", READING, "field[blanks] == BLANK",
+     "field[blanks] in (BLANK, 9)"),
+    ("a byte 0 is a blank", READING, "field[blanks] == BLANK",
+     "field[blanks] in (BLANK, 0)"),
+    ("a colon is a digit", READING, "byte > DIGIT_9", "byte > DIGIT_9 + 1"),
+    ("a slash is a digit", READING, "byte < DIGIT_0", "byte < DIGIT_0 - 1"),
+    ("bit 7 of a digit is not looked at", READING,
+     "    for byte in digits:\n        if byte <",
+     "    for byte in [x % 128 for x in digits]:\n        if byte <"),
+    ("numbers are cut to a byte", READING,
+     "number = 10 * number + (byte - DIGIT_0)",
+     "number = (10 * number + (byte - DIGIT_0)) % 256"),
+    ("a sheet line needs no line feed", READING,
+     "    if line[4] != LINE_FEED:\n        return None\n", ""),
+    ("a sheet line may end in a carriage return", READING,
+     "if line[4] != LINE_FEED:", "if line[4] not in (10, 13):"),
+    ("a sheet may be longer", READING, "if len(data) != 5 * count:",
+     "if len(data) < 5 * count:"),
+    ("sheet: 12 in place of 1", READING, "return (REFUSED_N, None)",
+     "return (REFUSED_FORM, None)"),
+    ("sheet: 1 for fewer than 5 bytes", READING,
+     "    if len(data) < 5:\n        return (REFUSED_FORM, None)\n",
+     "    if len(data) < 5:\n        return (REFUSED_N, None)\n"),
+    ("sheet: 12 before the first line is looked at", READING,
+     "    n = line_number(data[0:5])\n",
+     "    if len(data) < 20:\n        return (REFUSED_FORM, None)\n"
+     "    n = line_number(data[0:5])\n"),
+    ("sheet: longer buffers are refused", READING,
+     "if map_length < N or coefs_length < coefs_needed:",
+     "if map_length != N or coefs_length != coefs_needed:"),
+    ("sheet: a short map buffer is taken for short", READING,
+     "if map_length < N or coefs_length < coefs_needed:",
+     "if map_length < N - 1 or coefs_length < coefs_needed:"),
+    ("sheet: the coefficient buffer is not looked at", READING,
+     "if map_length < N or coefs_length < coefs_needed:",
+     "if map_length < N:"),
+    ("sheet: 5 is not tried", READING, SHEET_5, ""),
+    ("sheet: 6 is not tried", READING, SHEET_6, ""),
+    ("frame line: 65 outputs are taken", READING, "if output_length != 64:",
+     "if output_length < 64:"),
+    ("frame line: more bytes are taken", READING, "if len(data) != 257:",
+     "if len(data) < 257:"),
+    ("frame line: no line feed is asked", READING,
+     "    if data[256] != LINE_FEED:\n        return (REFUSED_FORM, None)\n",
+     ""),
+    ("frame line: the last field is not read", READING,
+     "        number = field_number(data[4 * s:4 * s + 4])\n",
+     "        number = field_number(data[4 * s:4 * s + 4])\n"
+     "        if s == 63:\n            number = number or 0\n"),
+    ("frame file: bytes after it are taken", READING, FILE_LONG, ""),
+    ("frame file: 8 is not tried", READING, FILE_8, ""),
+    ("frame file: 9 is not tried", READING, FILE_9, ""),
+    ("the program decodes with Qc = 4", READING, "PROGRAM_QC = 5",
+     "PROGRAM_QC = 4"),
+    ("the program decodes with Qc = 6", READING, "PROGRAM_QC = 5",
+     "PROGRAM_QC = 6"),
+    ("the program decodes with Qm = 8", READING, "PROGRAM_QM = 13",
+     "PROGRAM_QM = 8"),
+    ("the program decodes with Qm = 12", READING, "PROGRAM_QM = 13",
+     "PROGRAM_QM = 12"),
+    ("listing: left-justified", READING, "str(number).rjust(5)",
+     "str(number).ljust(5)"),
+    ("listing: zeros before a number", READING, "str(number).rjust(5)",
+     "str(number).zfill(5)"),
+    ("listing: no count", READING,
+     "return printed + five_columns(count) + b\"\\n\"",
+     "return printed"),
+]
+
+
+# --- What the calls make of the rules ----------------------------------------
+
+CALL = [
+    ("verdict: 12 before 2", CALLS, "VERDICTS = (2, 12, 8, 9)",
+     "VERDICTS = (12, 2, 8, 9)"),
+    ("verdict: 8 before 12", CALLS, "VERDICTS = (2, 12, 8, 9)",
+     "VERDICTS = (2, 8, 12, 9)"),
+    ("verdict: 9 before 8", CALLS, "VERDICTS = (2, 12, 8, 9)",
+     "VERDICTS = (2, 12, 9, 8)"),
+    ("verdict: the last one wins", CALLS,
+     "    for verdict in VERDICTS:\n",
+     "    for verdict in (more, before) + VERDICTS:\n"
+     "        if verdict not in VERDICTS:\n            continue\n"),
+    ("verdict: another number is kept", CALLS,
+     "            return verdict\n    return 0\n",
+     "            return verdict\n    return before\n"),
+    ("end of a file: a byte left is taken", CALLS,
+     "if given[\"left\"] != 0 else 0", "if given[\"left\"] > 1 else 0"),
+    ("fed line: 8 and 9 leave the output as it came", CALLS,
+     "        refusal, _ = reading.read_frame(data, 1)\n",
+     "        refusal, numbers = reading.read_frame(data, 1)\n"),
+    ("sheet: the rest of the map is cleared", CALLS,
+     "{\"map\": map, \"coefs\": coefs}",
+     "{\"map\": over([0] * len(given[\"map\"]), map), \"coefs\": coefs}"),
+    ("sheet: the rest of the coefficients is cleared", CALLS,
+     "{\"map\": map, \"coefs\": coefs}",
+     "{\"map\": map,\n            \"coefs\": over("
+     "[0] * len(given[\"coefs\"]), coefs)}"),
+    ("decoder: the work buffer stays as it came", CALLS,
+     "{\"work\": [0] * len(given[\"work\"]),\n", "{"),
+    ("round trip: the work buffer stays as it came", CALLS,
+     "        \"work\": [0] * len(given[\"work\"]), ", "        "),
+    ("whole listing: a longer text is taken", CALLS,
+     "text_length != 21 * N + 6", "text_length < 21 * N + 6"),
+    ("whole listing: a shorter text is refused by 12", CALLS,
+     "        return scms.REFUSED_LENGTH\n", "        return 12\n"),
+    ("whole listing: the text is looked at last", CALLS,
+     "    if refusal != scms.REFUSED_N and text_length",
+     "    if refusal == 0 and text_length"),
+    ("part: the place is cut to a byte", CHIPS,
+     "    if place < 0 or place >=", "    place = place % 256\n"
+     "    if place < 0 or place >="),
+    ("weighing: the gain is cut to a byte", CHIPS,
+     "if top == 0 or top > 255 or bottom == 0 or bottom > 255:",
+     "if top % 256 == 0 or bottom % 256 == 0:"),
+    ("decoder: Qm is cut to a byte", DECODING, "Qc <= Qm <= 13",
+     "Qc <= Qm % 256 <= 13"),
+    ("decoder: a coefficient is not looked at in the last layer", DECODING,
+     "    if not coefficients_are_valid(coefs):\n",
+     "    if not coefficients_are_valid(coefs[:-(N // 2)]):\n"),
+    ("the order of layers in u", DECODING,
+     "for later in range(n, l, -1):", "for later in range(l + 1, n + 1):"),
+]
+
+VARIANTS = ENCODER + CHIP + DECODER + TRIP + READER + ORDERS + CALL
+
+
+# --- One variant -------------------------------------------------------------
+
+def work_out(folder):
+    """Work the records out with the rules in a folder; print the number and
+    letter of the first that differs or fails, or nothing."""
+    sys.path.insert(0, folder)
+    import calls
+    lines = (STORED / "stdin").read_text("ascii").splitlines()
+    stored = (STORED / "stdout").read_text("ascii").splitlines()
+    found = calls.expected(lines)
+    for i, line in enumerate(lines):
+        try:
+            answer = next(found)
+        except Exception as error:
+            print("%d %s fails %s" % (i + 1, line[0], type(error).__name__))
+            return
+        if answer != stored[i]:
+            print("%d %s" % (i + 1, line[0]))
+            return
+
+
+def write_variant(folder, file, old, new):
+    """Make the replacement in a copy of the rules."""
+    path = folder / file
+    text = path.read_text("ascii")
+    assert text.count(old) == 1, old
+    path.write_text(text.replace(old, new), "ascii")
+
+
+def result(file, old, new):
+    """What is printed for a variant: nothing if it is not seen."""
+    with tempfile.TemporaryDirectory() as name:
+        folder = pathlib.Path(name) / "outside"
+        shutil.copytree(TOOLS / "outside", folder)
+        write_variant(folder, file, old, new)
+        ended = subprocess.run(
+            [sys.executable, str(TOOLS / "wrong_variants.py"), "--in",
+             str(folder)],
+            capture_output=True, text=True, timeout=TIME_LIMIT, check=True)
+        return ended.stdout.strip()
+
+
+def main():
+    """Try each variant, or those of the names given; 0 if all are seen, else
+    1."""
+    if sys.argv[1:2] == ["--in"]:
+        work_out(sys.argv[2])
+        return 0
+    names = sys.argv[1:]
+    chosen = [variant for variant in VARIANTS
+              if names == [] or variant[0] in names]
+    seen = 0
+    failing = 0
+    for name, file, old, new in chosen:
+        found = result(file, old, new)
+        seen += found != ""
+        failing += "fails" in found
+        print("%-58s %-12s %s" % (name, file, found or "NOT SEEN"), flush=True)
+    print("%d of these fail: they end before they answer" % failing)
+    print("%d of %d seen" % (seen, len(chosen)))
+    return 0 if seen == len(chosen) else 1
+
+
+if __name__ == "__main__":
+    sys.exit(main())
