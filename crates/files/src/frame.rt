@@ -36,8 +36,8 @@ fn feed_file(fd: i32, frame: &mut [u16]) -> u8
     frame_file::end_frame(verdict, left)
 }
 
-// Reads a file into the frame, which has 64 numbers for each place of the code. Returns the refusal, 0 where the file is
-// accepted.
+// Reads a file into the frame, which has 64 numbers for each place of the code. Returns the refusal, 0 where the file
+// is accepted.
 fn read_frame(name: &[u8], frame: &mut [u16]) -> u8
     ensures { λ r. ⌜ FrameNumber r ⌝ }
     ensures { λ r. ⌜ (r ≡ 0 → Penalties (now (frame .exit))) ⌝ }

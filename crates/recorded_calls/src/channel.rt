@@ -20,8 +20,8 @@ fn chip(numbers: &[u64], i: usize) -> u64 {
     0
 }
 
-// What is sent for a chip, moved by 1,000 so that no number is below 0: the amplitude added for chip 0 and taken away for
-// chip 1.
+// What is sent for a chip, moved by 1,000 so that no number is below 0: the amplitude is added for chip 0 and taken
+// away for chip 1.
 fn sent(chip: u64, amplitude: u64) -> u64
     ensures { λ r. ⌜ 873 ≤ r ⌝ }
     ensures { λ r. ⌜ r ≤ 1127 ⌝ }

@@ -1,5 +1,5 @@
-// The input, token by token. A token is bytes other than a blank and a line feed, and one of these two ends it. Where the
-// form of a record is broken the rest of the input is dropped, so that the record does not end.
+// The input, token by token. A token is bytes other than a blank and a line feed, and one of these two ends it. Where
+// the form of a record is broken the rest of the input is dropped: so the record does not end, and is found broken.
 use libc::STDIN_FILENO;
 ghost use mathlib.Core.Path.{_≡_};
 ghost use Prim.Native.Nat.{_≤_};

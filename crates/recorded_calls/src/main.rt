@@ -1,8 +1,8 @@
 // Recorded calls: the public calls on the records of the file stdin. A record names a call, its numbers, and its slices
 // with what they hold; for each a line is printed with the number answered, the values, and a checksum of each buffer
 // that was lent to be written. The file stdout has the lines that the outside program gives; both are made by
-// tools/outside/make.py, and tools/outside/records.py says what the form of a record is. A record that breaks it ends
-// the run with a line that says so.
+// tools/outside/make.py. tools/outside/records.md has the form of a record. One that breaks it ends the run with a line
+// that says so.
 mod channel;
 mod decoding;
 mod input;
@@ -36,7 +36,8 @@ use crate::slices::LONGEST;
 // The most records that a run makes.
 const MOST_RECORDS: usize = 1000000;
 
-// Runs the record whose first letter was read, and returns whether its form was kept. The buffers that are given keep what a record leaves for the next one.
+// Runs the record whose first letter was read, and returns whether it kept its form. The buffers that are given keep
+// what a record leaves for the next one; the others are all zeros at the start of each record.
 fn run_record(
     letter: u8,
     map: &mut [u8],
