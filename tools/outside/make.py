@@ -26,13 +26,14 @@ import listing_cases
 import program_cases
 import reading_cases
 import records
+import worked_cases
 
 CRATES = pathlib.Path(__file__).resolve().parents[2] / "crates"
 
 RECORDED = "recorded_calls"
 
-PARTS = (encode_cases, chip_cases, decode_cases, link_cases, reading_cases,
-         listing_cases, any_cases, chain_cases)
+PARTS = (worked_cases, encode_cases, chip_cases, decode_cases, link_cases,
+         reading_cases, listing_cases, any_cases, chain_cases)
 
 # The numbers that each call can give: 0 for one that is taken, else a refusal
 # or a verdict.  For the part of a place its length.
