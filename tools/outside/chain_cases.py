@@ -67,7 +67,8 @@ def block(generator, n, Qc, Qm):
     base = draw_base(generator)
     amplitude, noise, lost, top, bottom = draw_channel(generator, Qc)
     same = records.same
-    encode = dict(n=n, map=map, coefs=coefs_slice(generator, count),
+    coefs = coefs_slice(generator, count)
+    encode = dict(n=n, map=map, coefs=coefs,
                   message=symbols_slice(generator, places(map)),
                   symbols=lent(generator, "symbols", size))
     spread = dict(base=base, symbols=same(size),
@@ -77,7 +78,7 @@ def block(generator, n, Qc, Qm):
                    samples=lent(generator, "samples", 64 * size))
     weigh = dict(base=base, samples=same(64 * size), top=top, bottom=bottom,
                  Qc=Qc, frame=lent(generator, "frame", 64 * size))
-    decode = dict(n=n, map=same(size), coefs=same(count), Qc=Qc, Qm=Qm,
+    decode = dict(n=n, map=map, coefs=coefs, Qc=Qc, Qm=Qm,
                   frame=same(64 * size),
                   work=lent(generator, "work", 65 * size),
                   symbols=lent(generator, "symbols", size),

@@ -31,7 +31,7 @@ BUFFERS = {
 
 # The buffers that keep their contents; the others are all zeros at the start of
 # each record.
-KEPT = ("map", "coefs", "symbols", "numbers", "samples", "frame")
+KEPT = ("symbols", "numbers", "samples", "frame")
 
 # The numbers and slices of each call in order; a name that is a buffer's is a
 # slice, and one after the bar is lent.

@@ -13,23 +13,20 @@ use crate::slices::take_samples;
 use crate::slices::take_words;
 
 // `decoder::decode`.
-pub(crate) fn run_decode(
-    map: &mut [u8],
-    coefs: &mut [u8],
-    frame: &mut [u16],
-    symbols: &mut [u8],
-) -> bool {
-    let mut work_store = [0u16; LONGEST];
-    let mut report_store = [0u16; LONGEST];
+pub(crate) fn run_decode(frame: &mut [u16], symbols: &mut [u8]) -> bool {
+    let mut map = [0u8; 600];
+    let mut coefs = [0u8; 1200];
+    let mut work = [0u16; LONGEST];
+    let mut report = [0u16; LONGEST];
     let n = next_number() as usize;
-    let map = take_bytes(map);
-    let coefs = take_bytes(coefs);
+    let map = take_bytes(&mut map);
+    let coefs = take_bytes(&mut coefs);
     let qc = next_u32();
     let qm = next_u32();
     let frame = take_words(frame);
-    let work = take_words(&mut work_store);
+    let work = take_words(&mut work);
     let symbols = take_bytes(symbols);
-    let report = take_words(&mut report_store);
+    let report = take_words(&mut report);
     if !ended() {
         return false;
     }
@@ -41,13 +38,15 @@ pub(crate) fn run_decode(
 }
 
 // `program_listing::decode_listing`.
-pub(crate) fn run_listing(map: &mut [u8], coefs: &mut [u8], frame: &mut [u16]) -> bool {
-    let mut store = [0u8; 16384];
+pub(crate) fn run_listing(frame: &mut [u16]) -> bool {
+    let mut map = [0u8; 600];
+    let mut coefs = [0u8; 1200];
+    let mut output = [0u8; 16384];
     let n = next_number() as usize;
-    let map = take_bytes(map);
-    let coefs = take_bytes(coefs);
+    let map = take_bytes(&mut map);
+    let coefs = take_bytes(&mut coefs);
     let frame = take_words(frame);
-    let output = take_bytes(&mut store);
+    let output = take_bytes(&mut output);
     if !ended() {
         return false;
     }
@@ -125,28 +124,24 @@ fn trip_line(
 }
 
 // A record of it.
-pub(crate) fn run_round_trip(
-    map: &mut [u8],
-    coefs: &mut [u8],
-    samples: &mut [i8],
-    frame: &mut [u16],
-    symbols: &mut [u8],
-) -> bool {
-    let mut message_store = [0u8; 600];
-    let mut work_store = [0u16; LONGEST];
-    let mut report_store = [0u16; LONGEST];
-    let mut decoded_store = [0u8; 16384];
+pub(crate) fn run_round_trip(samples: &mut [i8], frame: &mut [u16], symbols: &mut [u8]) -> bool {
+    let mut map = [0u8; 600];
+    let mut coefs = [0u8; 1200];
+    let mut message = [0u8; 600];
+    let mut work = [0u16; LONGEST];
+    let mut report = [0u16; LONGEST];
+    let mut decoded = [0u8; 16384];
     let n = next_number() as usize;
-    let map = take_bytes(map);
-    let coefs = take_bytes(coefs);
-    let message = take_bytes(&mut message_store);
+    let map = take_bytes(&mut map);
+    let coefs = take_bytes(&mut coefs);
+    let message = take_bytes(&mut message);
     let link = next_link();
     let samples = take_samples(samples);
     let frame = take_words(frame);
-    let work = take_words(&mut work_store);
+    let work = take_words(&mut work);
     let symbols = take_bytes(symbols);
-    let report = take_words(&mut report_store);
-    let decoded = take_bytes(&mut decoded_store);
+    let report = take_words(&mut report);
+    let decoded = take_bytes(&mut decoded);
     if !ended() {
         return false;
     }

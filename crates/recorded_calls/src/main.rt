@@ -40,23 +40,21 @@ const MOST_RECORDS: usize = 1000000;
 // what a record leaves for the next one; the others are all zeros at the start of each record.
 fn run_record(
     letter: u8,
-    map: &mut [u8],
-    coefs: &mut [u8],
     symbols: &mut [u8],
     numbers: &mut [u64],
     samples: &mut [i8],
     frame: &mut [u16],
 ) -> bool {
     match letter {
-        b'e' => run_encode(map, coefs, symbols),
+        b'e' => run_encode(symbols),
         b's' => run_spread(symbols, numbers),
         b'c' => run_channel(numbers, samples),
         b'd' => run_demap(samples, frame),
         b'p' => run_part(frame),
-        b'D' => run_decode(map, coefs, frame, symbols),
-        b't' => run_round_trip(map, coefs, samples, frame, symbols),
-        b'o' => run_listing(map, coefs, frame),
-        b'h' => run_sheet(map, coefs),
+        b'D' => run_decode(frame, symbols),
+        b't' => run_round_trip(samples, frame, symbols),
+        b'o' => run_listing(frame),
+        b'h' => run_sheet(),
         b'l' => run_frame_line(frame),
         b'f' => run_feed(frame),
         b'g' => run_end(),
@@ -68,8 +66,6 @@ fn run_record(
 
 // Runs all records.
 fn main() {
-    let mut map = [0u8; 600];
-    let mut coefs = [0u8; 1200];
     let mut symbols = [0u8; 600];
     let mut numbers = [0u64; 300];
     let mut samples = [0i8; LONGEST];
@@ -81,15 +77,7 @@ fn main() {
             return;
         }
         end_token();
-        let kept = run_record(
-            letter,
-            &mut map,
-            &mut coefs,
-            &mut symbols,
-            &mut numbers,
-            &mut samples,
-            &mut frame,
-        );
+        let kept = run_record(letter, &mut symbols, &mut numbers, &mut samples, &mut frame);
         i += 1;
         if !kept {
             print_broken(i);

@@ -24,11 +24,13 @@ fn print_layers(answer: Answer) {
 }
 
 // `sheet::read_sheet`.
-pub(crate) fn run_sheet(map: &mut [u8], coefs: &mut [u8]) -> bool {
-    let mut store = [0u8; 16384];
-    let bytes = take_bytes(&mut store);
-    let map = take_bytes(map);
-    let coefs = take_bytes(coefs);
+pub(crate) fn run_sheet() -> bool {
+    let mut bytes = [0u8; 16384];
+    let mut map = [0u8; 600];
+    let mut coefs = [0u8; 1200];
+    let bytes = take_bytes(&mut bytes);
+    let map = take_bytes(&mut map);
+    let coefs = take_bytes(&mut coefs);
     if !ended() {
         return false;
     }
@@ -40,8 +42,8 @@ pub(crate) fn run_sheet(map: &mut [u8], coefs: &mut [u8]) -> bool {
 
 // `sheet::read_frame_line`.
 pub(crate) fn run_frame_line(frame: &mut [u16]) -> bool {
-    let mut store = [0u8; 16384];
-    let line = take_bytes(&mut store);
+    let mut line = [0u8; 16384];
+    let line = take_bytes(&mut line);
     let llrs = take_words(frame);
     if !ended() {
         return false;
@@ -53,9 +55,9 @@ pub(crate) fn run_frame_line(frame: &mut [u16]) -> bool {
 
 // `frame_file::feed_line`.
 pub(crate) fn run_feed(frame: &mut [u16]) -> bool {
-    let mut store = [0u8; 16384];
+    let mut line = [0u8; 16384];
     let verdict = next_u8();
-    let line = take_bytes(&mut store);
+    let line = take_bytes(&mut line);
     let llrs = take_words(frame);
     if !ended() {
         return false;

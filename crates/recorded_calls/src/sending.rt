@@ -19,12 +19,14 @@ use crate::sums::number_sum;
 use crate::sums::sample_sum;
 
 // `polar::encode`.
-pub(crate) fn run_encode(map: &mut [u8], coefs: &mut [u8], symbols: &mut [u8]) -> bool {
-    let mut store = [0u8; 600];
+pub(crate) fn run_encode(symbols: &mut [u8]) -> bool {
+    let mut map = [0u8; 600];
+    let mut coefs = [0u8; 1200];
+    let mut message = [0u8; 600];
     let n = next_number() as usize;
-    let map = take_bytes(map);
-    let coefs = take_bytes(coefs);
-    let message = take_bytes(&mut store);
+    let map = take_bytes(&mut map);
+    let coefs = take_bytes(&mut coefs);
+    let message = take_bytes(&mut message);
     let codeword = take_bytes(symbols);
     if !ended() {
         return false;
