@@ -1,4 +1,5 @@
-// The calls that decode: the decoder, the round trip and the program's listing.
+// The calls that decode: the decoder, the round trip and the program's listing. Each function reads the record of one
+// call, makes the call and prints the line. It returns whether the record kept its form; if not, no call is made.
 use crate::input::ended;
 use crate::input::next_number;
 use crate::input::next_u32;
@@ -7,15 +8,18 @@ use crate::print::print_count;
 use crate::print::print_number;
 use crate::print::print_samples;
 use crate::print::print_words;
+use crate::slices::KERNELS;
 use crate::slices::LONGEST;
+use crate::slices::PLACES;
+use crate::slices::TEXT;
 use crate::slices::take_bytes;
 use crate::slices::take_samples;
 use crate::slices::take_words;
 
 // `decoder::decode`.
 pub(crate) fn run_decode(frame: &mut [u16], symbols: &mut [u8]) -> bool {
-    let mut map = [0u8; 600];
-    let mut coefs = [0u8; 1200];
+    let mut map = [0u8; PLACES];
+    let mut coefs = [0u8; KERNELS];
     let mut work = [0u16; LONGEST];
     let mut report = [0u16; LONGEST];
     let n = next_number() as usize;
@@ -39,9 +43,9 @@ pub(crate) fn run_decode(frame: &mut [u16], symbols: &mut [u8]) -> bool {
 
 // `program_listing::decode_listing`.
 pub(crate) fn run_listing(frame: &mut [u16]) -> bool {
-    let mut map = [0u8; 600];
-    let mut coefs = [0u8; 1200];
-    let mut output = [0u8; 16384];
+    let mut map = [0u8; PLACES];
+    let mut coefs = [0u8; KERNELS];
+    let mut output = [0u8; TEXT];
     let n = next_number() as usize;
     let map = take_bytes(&mut map);
     let coefs = take_bytes(&mut coefs);
@@ -65,7 +69,7 @@ struct Link {
     qm: u32,
 }
 
-// Reads that.
+// Reads these numbers.
 fn next_link() -> Link {
     let base = next_number();
     let amplitude = next_u32();
@@ -125,12 +129,12 @@ fn trip_line(
 
 // A record of it.
 pub(crate) fn run_round_trip(samples: &mut [i8], frame: &mut [u16], symbols: &mut [u8]) -> bool {
-    let mut map = [0u8; 600];
-    let mut coefs = [0u8; 1200];
-    let mut message = [0u8; 600];
+    let mut map = [0u8; PLACES];
+    let mut coefs = [0u8; KERNELS];
+    let mut message = [0u8; PLACES];
     let mut work = [0u16; LONGEST];
     let mut report = [0u16; LONGEST];
-    let mut decoded = [0u8; 16384];
+    let mut decoded = [0u8; TEXT];
     let n = next_number() as usize;
     let map = take_bytes(&mut map);
     let coefs = take_bytes(&mut coefs);

@@ -32,6 +32,8 @@ use crate::sending::run_encode;
 use crate::sending::run_part;
 use crate::sending::run_spread;
 use crate::slices::LONGEST;
+use crate::slices::NUMBERS;
+use crate::slices::PLACES;
 
 // The most records that a run makes.
 const MOST_RECORDS: usize = 1000000;
@@ -66,8 +68,8 @@ fn run_record(
 
 // Runs all records.
 fn main() {
-    let mut symbols = [0u8; 600];
-    let mut numbers = [0u64; 300];
+    let mut symbols = [0u8; PLACES];
+    let mut numbers = [0u64; NUMBERS];
     let mut samples = [0i8; LONGEST];
     let mut frame = [0u16; LONGEST];
     let mut i: usize = 0;

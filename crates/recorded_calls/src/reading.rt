@@ -1,4 +1,5 @@
-// The readers of sheets and frames, and the lines of a listing.
+// The readers of sheets and frames, and the lines of a listing. Each function reads the record of one call, makes the
+// call and prints the line. It returns whether the record kept its form; if not, no call is made.
 use crate::input::ended;
 use crate::input::next_between;
 use crate::input::next_u8;
@@ -7,6 +8,9 @@ use crate::print::print_bytes;
 use crate::print::print_next;
 use crate::print::print_number;
 use crate::print::print_words;
+use crate::slices::KERNELS;
+use crate::slices::PLACES;
+use crate::slices::TEXT;
 use crate::slices::take_bytes;
 use crate::slices::take_words;
 use crate::sums::byte_sum;
@@ -25,9 +29,9 @@ fn print_layers(answer: Answer) {
 
 // `sheet::read_sheet`.
 pub(crate) fn run_sheet() -> bool {
-    let mut bytes = [0u8; 16384];
-    let mut map = [0u8; 600];
-    let mut coefs = [0u8; 1200];
+    let mut bytes = [0u8; TEXT];
+    let mut map = [0u8; PLACES];
+    let mut coefs = [0u8; KERNELS];
     let bytes = take_bytes(&mut bytes);
     let map = take_bytes(&mut map);
     let coefs = take_bytes(&mut coefs);
@@ -42,7 +46,7 @@ pub(crate) fn run_sheet() -> bool {
 
 // `sheet::read_frame_line`.
 pub(crate) fn run_frame_line(frame: &mut [u16]) -> bool {
-    let mut line = [0u8; 16384];
+    let mut line = [0u8; TEXT];
     let line = take_bytes(&mut line);
     let llrs = take_words(frame);
     if !ended() {
@@ -55,7 +59,7 @@ pub(crate) fn run_frame_line(frame: &mut [u16]) -> bool {
 
 // `frame_file::feed_line`.
 pub(crate) fn run_feed(frame: &mut [u16]) -> bool {
-    let mut line = [0u8; 16384];
+    let mut line = [0u8; TEXT];
     let verdict = next_u8();
     let line = take_bytes(&mut line);
     let llrs = take_words(frame);

@@ -1,4 +1,6 @@
-// The calls from a message to a frame: encoder, spreading, weighing; and the channel between the last two.
+// The calls from a message to a frame: encoder, spreading, weighing; and the channel between the last two. Each function
+// reads the record of one call, makes the call and prints the line. It returns whether the record kept its form; if not,
+// no call is made.
 use crate::channel::Channel;
 use crate::channel::make_samples;
 use crate::input::ended;
@@ -9,7 +11,9 @@ use crate::print::print_bytes;
 use crate::print::print_next;
 use crate::print::print_number;
 use crate::print::print_words;
+use crate::slices::KERNELS;
 use crate::slices::LONGEST;
+use crate::slices::PLACES;
 use crate::slices::put_samples;
 use crate::slices::take_bytes;
 use crate::slices::take_numbers;
@@ -20,9 +24,9 @@ use crate::sums::sample_sum;
 
 // `polar::encode`.
 pub(crate) fn run_encode(symbols: &mut [u8]) -> bool {
-    let mut map = [0u8; 600];
-    let mut coefs = [0u8; 1200];
-    let mut message = [0u8; 600];
+    let mut map = [0u8; PLACES];
+    let mut coefs = [0u8; KERNELS];
+    let mut message = [0u8; PLACES];
     let n = next_number() as usize;
     let map = take_bytes(&mut map);
     let coefs = take_bytes(&mut coefs);

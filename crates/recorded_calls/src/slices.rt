@@ -2,7 +2,16 @@
 use crate::input::within;
 use crate::values::take_values;
 
-// The entries of the longest slice.
+// The entries of the buffers: of those with a byte for each place, of the coefficients, of a text, of those with a
+// number for each place, and of the longest ones.
+pub(crate) const PLACES: usize = 600;
+
+pub(crate) const KERNELS: usize = 1200;
+
+pub(crate) const TEXT: usize = 16384;
+
+pub(crate) const NUMBERS: usize = 300;
+
 pub(crate) const LONGEST: usize = 20000;
 
 // A value, 0 where there is none.
