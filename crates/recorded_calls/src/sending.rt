@@ -1,6 +1,6 @@
-// The calls from a message to a frame: encoder, spreading, weighing; and the channel between the last two. Each function
-// reads the record of one call, makes the call and prints the line. It returns whether the record kept its form; if not,
-// no call is made.
+// The calls from a message to a frame: encoder, spreading, weighing; and the channel between the last two. Each
+// function reads the record of one call, makes the call and prints the line. It returns whether the record kept its
+// form; if not, no call is made.
 use crate::channel::Channel;
 use crate::channel::make_samples;
 use crate::input::ended;
