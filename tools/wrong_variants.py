@@ -26,6 +26,7 @@ CHIPS = "chips.py"
 DECODING = "decoding.py"
 LINKING = "linking.py"
 READING = "reading.py"
+WRITING = "writing.py"
 CALLS = "calls.py"
 
 
@@ -131,6 +132,45 @@ LINK_5 = """    if K == 0:
 LINK_6 = """    if not coefficients_are_valid(coefs):
         return 6
 """
+WRITE_1 = """    if n < 1 or n > 8:
+        return REFUSED_N
+"""
+WRITE_N = """    N = 2 ** n
+"""
+WRITE_MAP_2 = """    if len(map) != N:
+        return REFUSED_LENGTH
+"""
+WRITE_COEFS_2 = """    if len(coefs) != n * (N // 2):
+        return REFUSED_LENGTH
+"""
+WRITE_OUTPUT_2 = """    if output_length != 5 * (1 + N + n * (N // 2)):
+        return REFUSED_LENGTH
+"""
+WRITE_2 = WRITE_MAP_2 + WRITE_COEFS_2 + WRITE_OUTPUT_2
+WRITE_4 = """    for byte in map:
+        if byte > 1:
+            return REFUSED_MAP_BYTE
+"""
+WRITE_5 = """    if 0 not in map:
+        return REFUSED_NO_MESSAGE_PLACE
+"""
+WRITE_6 = """    for h in coefs:
+        if h == 0 or h > 63:
+            return REFUSED_COEFFICIENT
+"""
+WRITE_COUNT_2 = """    if len(penalties) != 64:
+        return REFUSED_LENGTH
+"""
+WRITE_LINE_2 = """    if output_length != 257:
+        return REFUSED_LENGTH
+"""
+WRITE_8 = """    for penalty in penalties:
+        if penalty > 2 ** WRITER_QC - 1:
+            return REFUSED_PENALTY
+"""
+WRITE_9 = """    if 0 not in penalties:
+        return REFUSED_NO_ZERO
+"""
 
 ORDERS = [
     order("encoder: 4 before 2", SCMS, ENCODE_LENGTH_2, MAP_4),
@@ -160,6 +200,36 @@ ORDERS = [
     order("frame line: 12 before 2", READING, LINE_2, LINE_257),
     order("frame file: 8 before 12", READING, FILE_LONG, FILE_8),
     order("frame file: 9 before 8", READING, FILE_8, FILE_9),
+    ("sheet writer: 2 before 1", WRITING, WRITE_1 + WRITE_N + WRITE_2,
+     "    N = 2 ** min(n, 9)\n" + WRITE_2 + WRITE_1),
+    ("sheet writer: 4 before 1", WRITING, WRITE_1, WRITE_4 + WRITE_1),
+    ("sheet writer: 5 before 1", WRITING, WRITE_1, WRITE_5 + WRITE_1),
+    ("sheet writer: 6 before 1", WRITING, WRITE_1, WRITE_6 + WRITE_1),
+    order("sheet writer: 4 before the 2 of the output", WRITING,
+          WRITE_OUTPUT_2, WRITE_4),
+    order("sheet writer: 4 before the 2 of the coefficients", WRITING,
+          WRITE_COEFS_2, WRITE_OUTPUT_2 + WRITE_4),
+    order("sheet writer: 4 before the 2 of the map", WRITING,
+          WRITE_MAP_2, WRITE_COEFS_2 + WRITE_OUTPUT_2 + WRITE_4),
+    order("sheet writer: 5 before the 2 of the output", WRITING,
+          WRITE_OUTPUT_2, WRITE_4 + WRITE_5),
+    order("sheet writer: 6 before the 2 of the output", WRITING,
+          WRITE_OUTPUT_2, WRITE_4 + WRITE_5 + WRITE_6),
+    order("sheet writer: 6 before the 2 of the map", WRITING,
+          WRITE_MAP_2, WRITE_COEFS_2 + WRITE_OUTPUT_2 + WRITE_4 + WRITE_5
+          + WRITE_6),
+    order("sheet writer: 5 before 4", WRITING, WRITE_4, WRITE_5),
+    order("sheet writer: 6 before 5", WRITING, WRITE_5, WRITE_6),
+    order("sheet writer: 6 before 4", WRITING, WRITE_4, WRITE_5 + WRITE_6),
+    order("line writer: 8 before the 2 of the output", WRITING,
+          WRITE_LINE_2, WRITE_8),
+    order("line writer: 8 before the 2 of the penalties", WRITING,
+          WRITE_COUNT_2, WRITE_LINE_2 + WRITE_8),
+    order("line writer: 9 before the 2 of the output", WRITING,
+          WRITE_LINE_2, WRITE_8 + WRITE_9),
+    order("line writer: 9 before the 2 of the penalties", WRITING,
+          WRITE_COUNT_2, WRITE_LINE_2 + WRITE_8 + WRITE_9),
+    order("line writer: 9 before 8", WRITING, WRITE_8, WRITE_9),
 ]
 
 
@@ -553,6 +623,218 @@ READER = [
 ]
 
 
+# --- Writers -----------------------------------------------------------------
+
+SHEET_START = """    data = sheet_line(n)
+"""
+SHEET_MAP = """    for byte in map:
+        data = data + sheet_line(byte)
+"""
+SHEET_COEFS = """    for h in coefs:
+        data = data + sheet_line(h)
+"""
+SHEET_REFUSED = """    refusal = sheet_refusal(n, map, coefs, output_length)
+    if refusal != ACCEPTED:
+"""
+LINE_REFUSED = """    refusal = line_refusal(penalties, output_length)
+    if refusal != ACCEPTED:
+"""
+NOTHING = """        return (refusal, None)
+"""
+FIELD = "bytes([BLANK] * (4 - len(digits))) + digits"
+
+
+def changing(number):
+    """What makes a refusal by this number change the start of an output."""
+    return ("        if refusal == %d:\n" % number
+            + "            return (refusal, b\"   1\"[:output_length])\n")
+
+
+WRITER = [
+    ("sheet writer: n = 0 is taken", WRITING, "if n < 1 or n > 8:",
+     "if n > 8:"),
+    ("sheet writer: n = 9 is taken", WRITING, "if n < 1 or n > 8:",
+     "if n < 1 or n > 9:"),
+    ("sheet writer: n = 8 is refused", WRITING, "if n < 1 or n > 8:",
+     "if n < 1 or n > 7:"),
+    ("sheet writer: n = 1 is refused", WRITING, "if n < 1 or n > 8:",
+     "if n < 2 or n > 8:"),
+    ("sheet writer: n is cut to a byte", WRITING, WRITE_1,
+     "    n = n % 256\n" + WRITE_1),
+    ("sheet writer: n is cut to 32 bits", WRITING, WRITE_1,
+     "    n = n % 2 ** 32\n" + WRITE_1),
+    ("sheet writer: n is cut to 63 bits", WRITING, WRITE_1,
+     "    n = n % 2 ** 63\n" + WRITE_1),
+    ("sheet writer: a longer map is taken", WRITING, "if len(map) != N:",
+     "if len(map) < N:"),
+    ("sheet writer: a shorter map is taken", WRITING, "if len(map) != N:",
+     "if len(map) > N:"),
+    ("sheet writer: more coefficients are taken", WRITING,
+     "if len(coefs) != n * (N // 2):", "if len(coefs) < n * (N // 2):"),
+    ("sheet writer: fewer coefficients are taken", WRITING,
+     "if len(coefs) != n * (N // 2):", "if len(coefs) > n * (N // 2):"),
+    ("sheet writer: map and coefficients are counted together", WRITING,
+     WRITE_MAP_2 + WRITE_COEFS_2,
+     "    if len(map) + len(coefs) != N + n * (N // 2):\n"
+     "        return REFUSED_LENGTH\n"),
+    ("sheet writer: a longer output is taken", WRITING,
+     "if output_length != 5 *", "if output_length < 5 *"),
+    ("sheet writer: a shorter output is taken", WRITING,
+     "if output_length != 5 *", "if output_length > 5 *"),
+    ("sheet writer: an output longer by a part of a line is taken", WRITING,
+     "if output_length != 5 * (1 + N + n * (N // 2)):",
+     "if output_length // 5 != 1 + N + n * (N // 2):"),
+    ("sheet writer: a map byte 2 is taken", WRITING, "if byte > 1:",
+     "if byte > 2:"),
+    ("sheet writer: a map byte 255 is taken", WRITING, "if byte > 1:",
+     "if 1 < byte < 255:"),
+    ("sheet writer: 4 is not tried", WRITING, WRITE_4, ""),
+    ("sheet writer: the first map byte is not looked at", WRITING,
+     "    for byte in map:\n        if",
+     "    for byte in map[1:]:\n        if"),
+    ("sheet writer: the last map byte is not looked at", WRITING,
+     "    for byte in map:\n        if",
+     "    for byte in map[:-1]:\n        if"),
+    ("sheet writer: 5 is not tried", WRITING, WRITE_5, ""),
+    ("sheet writer: 5 without a frozen place", WRITING, "if 0 not in map:",
+     "if 1 not in map:"),
+    ("sheet writer: 5 looks at all places but the first", WRITING,
+     "if 0 not in map:", "if 0 not in map[1:]:"),
+    ("sheet writer: 5 looks at all places but the last", WRITING,
+     "if 0 not in map:", "if 0 not in map[:-1]:"),
+    ("sheet writer: a coefficient 0 is taken", WRITING,
+     "if h == 0 or h > 63:", "if h > 63:"),
+    ("sheet writer: a coefficient 1 is refused", WRITING,
+     "if h == 0 or h > 63:", "if h < 2 or h > 63:"),
+    ("sheet writer: a coefficient 63 is refused", WRITING,
+     "if h == 0 or h > 63:", "if h == 0 or h > 62:"),
+    ("sheet writer: a coefficient 64 is taken", WRITING,
+     "if h == 0 or h > 63:", "if h == 0 or h > 64:"),
+    ("sheet writer: a coefficient 255 is taken", WRITING,
+     "if h == 0 or h > 63:", "if h == 0 or 63 < h < 255:"),
+    ("sheet writer: the first coefficient is not looked at", WRITING,
+     "    for h in coefs:\n        if",
+     "    for h in coefs[1:]:\n        if"),
+    ("sheet writer: the last coefficient is not looked at", WRITING,
+     "    for h in coefs:\n        if",
+     "    for h in coefs[:-1]:\n        if"),
+    ("sheet writer: 6 is not tried", WRITING, WRITE_6, ""),
+    order("sheet writer: the coefficients before the map", WRITING,
+          SHEET_MAP, SHEET_COEFS),
+    ("sheet writer: the map before n", WRITING, SHEET_START + SHEET_MAP,
+     "    data = b\"\"\n" + SHEET_MAP + "    data = data + sheet_line(n)\n"),
+    ("sheet writer: N in place of n", WRITING, SHEET_START,
+     "    data = sheet_line(2 ** n)\n"),
+    ("sheet writer: map bytes 0 and 1 exchanged", WRITING,
+     "data + sheet_line(byte)", "data + sheet_line(1 - byte)"),
+    ("sheet writer: the map in falling order", WRITING,
+     "    for byte in map:\n        data",
+     "    for byte in map[::-1]:\n        data"),
+    ("sheet writer: the coefficients in falling order", WRITING,
+     "    for h in coefs:\n        data",
+     "    for h in coefs[::-1]:\n        data"),
+    ("sheet writer: the coefficients less 1", WRITING, "data + sheet_line(h)",
+     "data + sheet_line(h - 1)"),
+    ("sheet writer: no line feed at the end", WRITING,
+     "return (ACCEPTED, data)", "return (ACCEPTED, data[:-1])"),
+    ("sheet writer: the last number is left out", WRITING,
+     "return (ACCEPTED, data)", "return (ACCEPTED, data[:-5])"),
+    ("sheet writer: nothing is written", WRITING,
+     "return (ACCEPTED, data)", "return (ACCEPTED, b\"\")"),
+    ("sheet writer: a refusal changes the output", WRITING,
+     SHEET_REFUSED + NOTHING,
+     SHEET_REFUSED + "        return (refusal, bytes(output_length))\n"),
+    ("a field is left-justified", WRITING, FIELD,
+     "digits + bytes([BLANK] * (4 - len(digits)))"),
+    ("a field has zeros before its number", WRITING, FIELD,
+     "bytes([DIGIT_0] * (4 - len(digits))) + digits"),
+    ("a field has tabs before its number", WRITING, FIELD,
+     "bytes([9] * (4 - len(digits))) + digits"),
+    ("a field has two digits always", WRITING, FIELD,
+     "b\"  \" + bytes([DIGIT_0] * (2 - len(digits))) + digits"),
+    ("a field has three columns", WRITING, "(4 - len(digits))",
+     "(3 - len(digits))"),
+    ("a field has five columns", WRITING, "(4 - len(digits))",
+     "(5 - len(digits))"),
+    ("the number 0 is four blanks", WRITING,
+     "digits = bytes([DIGIT_0 + number % 10])\n    number",
+     "digits = bytes([DIGIT_0 + number % 10] if number else [BLANK])\n"
+     "    number"),
+    ("the last digit comes first", WRITING,
+     "digits = bytes([DIGIT_0 + number % 10]) + digits",
+     "digits = digits + bytes([DIGIT_0 + number % 10])"),
+    ("the last digit alone is written", WRITING, "while number > 0:",
+     "while number > 9:"),
+    ("a carriage return ends a line", WRITING, "LINE_FEED = b\"\\n\"",
+     "LINE_FEED = b\"\\r\""),
+    ("a carriage return stands before the line feed", WRITING,
+     "LINE_FEED = b\"\\n\"", "LINE_FEED = b\"\\r\\n\""),
+    ("a blank ends a line", WRITING, "LINE_FEED = b\"\\n\"",
+     "LINE_FEED = b\" \""),
+    ("line writer: 65 penalties are taken", WRITING,
+     "if len(penalties) != 64:", "if len(penalties) < 64:"),
+    ("line writer: 63 penalties are taken", WRITING,
+     "if len(penalties) != 64:", "if len(penalties) > 64:"),
+    ("line writer: a longer output is taken", WRITING,
+     "if output_length != 257:", "if output_length < 257:"),
+    ("line writer: an output of 256 bytes is taken", WRITING,
+     "if output_length != 257:", "if output_length not in (256, 257):"),
+    ("line writer: lengths that belong together are taken", WRITING,
+     WRITE_COUNT_2 + WRITE_LINE_2,
+     "    if output_length != 4 * len(penalties) + 1:\n"
+     "        return REFUSED_LENGTH\n"),
+    ("line writer: a penalty 32 is taken", WRITING,
+     "if penalty > 2 ** WRITER_QC - 1:", "if penalty > 2 ** WRITER_QC:"),
+    ("line writer: a penalty 31 is refused", WRITING,
+     "if penalty > 2 ** WRITER_QC - 1:", "if penalty > 2 ** WRITER_QC - 2:"),
+    ("line writer: Qc = 4", WRITING, "WRITER_QC = 5", "WRITER_QC = 4"),
+    ("line writer: Qc = 6", WRITING, "WRITER_QC = 5", "WRITER_QC = 6"),
+    ("line writer: numbers up to 9999 are taken", WRITING,
+     "if penalty > 2 ** WRITER_QC - 1:", "if penalty > 9999:"),
+    ("line writer: a penalty is cut to a byte", WRITING,
+     "if penalty > 2 ** WRITER_QC - 1:",
+     "if penalty % 256 > 2 ** WRITER_QC - 1:"),
+    ("line writer: 8 is not tried", WRITING, WRITE_8, ""),
+    ("line writer: 8 looks at all penalties but the first", WRITING,
+     "    for penalty in penalties:\n        if",
+     "    for penalty in penalties[1:]:\n        if"),
+    ("line writer: 8 looks at all penalties but the last", WRITING,
+     "    for penalty in penalties:\n        if",
+     "    for penalty in penalties[:-1]:\n        if"),
+    ("line writer: 9 is not tried", WRITING, WRITE_9, ""),
+    ("line writer: 9 looks at all penalties but the first", WRITING,
+     "if 0 not in penalties:", "if 0 not in penalties[1:]:"),
+    ("line writer: 9 looks at all penalties but the last", WRITING,
+     "if 0 not in penalties:", "if 0 not in penalties[:-1]:"),
+    ("line writer: 9 for more than one zero", WRITING,
+     "if 0 not in penalties:", "if list(penalties).count(0) != 1:"),
+    ("line writer: the penalties in falling order", WRITING,
+     "    for penalty in penalties:\n        line",
+     "    for penalty in penalties[::-1]:\n        line"),
+    ("line writer: no line feed", WRITING,
+     "return (ACCEPTED, line + LINE_FEED)", "return (ACCEPTED, line)"),
+    ("line writer: the line feed first", WRITING,
+     "return (ACCEPTED, line + LINE_FEED)",
+     "return (ACCEPTED, LINE_FEED + line)"),
+    ("line writer: the last number is left out", WRITING,
+     "return (ACCEPTED, line + LINE_FEED)",
+     "return (ACCEPTED, line[:-4] + LINE_FEED)"),
+    ("line writer: nothing is written", WRITING,
+     "return (ACCEPTED, line + LINE_FEED)", "return (ACCEPTED, b\"\")"),
+    ("line writer: a refusal changes the output", WRITING,
+     LINE_REFUSED + NOTHING,
+     LINE_REFUSED + "        return (refusal, bytes(output_length))\n"),
+] + [
+    ("sheet writer: %d changes the output" % number, WRITING,
+     SHEET_REFUSED + NOTHING, SHEET_REFUSED + changing(number) + NOTHING)
+    for number in (1, 2, 4, 5, 6)
+] + [
+    ("line writer: %d changes the output" % number, WRITING,
+     LINE_REFUSED + NOTHING, LINE_REFUSED + changing(number) + NOTHING)
+    for number in (2, 8, 9)
+]
+
+
 # --- What the calls make of the rules ----------------------------------------
 
 CALL = [
@@ -607,7 +889,7 @@ CALL = [
      "for later in range(n, l, -1):", "for later in range(l + 1, n + 1):"),
 ]
 
-VARIANTS = ENCODER + CHIP + DECODER + TRIP + READER + ORDERS + CALL
+VARIANTS = ENCODER + CHIP + DECODER + TRIP + READER + WRITER + ORDERS + CALL
 
 
 # --- One variant -------------------------------------------------------------
@@ -653,14 +935,14 @@ def result(file, old, new):
 
 
 def main():
-    """Try each variant, or those of the names given; 0 if all are seen, else
-    1."""
+    """Try each variant, or those of the names given, which can be files; 0 if
+    all are seen, else 1."""
     if sys.argv[1:2] == ["--in"]:
         work_out(sys.argv[2])
         return 0
     names = sys.argv[1:]
     chosen = [variant for variant in VARIANTS
-              if names == [] or variant[0] in names]
+              if names == [] or variant[0] in names or variant[1] in names]
     seen = 0
     failing = 0
     for name, file, old, new in chosen:

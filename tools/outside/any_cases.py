@@ -12,6 +12,7 @@ import link_cases
 import listing_cases
 import reading_cases
 import records
+import writing_cases
 
 from draws import Generator, draw_base, pick
 from pieces import fit_to_map
@@ -144,6 +145,8 @@ CALLS = (
     ("l", reading_cases.any_line_call),
     ("f", reading_cases.any_fed_call),
     ("o", listing_call),
+    ("w", writing_cases.any_sheet_call),
+    ("x", writing_cases.any_line_call),
 )
 
 
@@ -154,9 +157,11 @@ ONE_PLACE = {"map": 1, "coefs": 0, "message": 1, "symbols": 1, "samples": 64,
 
 def one_place_blocks(generator):
     """Calls with n = 0 and slices of the lengths that a code of one place
-    would need; a whole listing has another text than a round trip."""
+    would need; the text of a round trip, of a whole listing and of a sheet has
+    its own length in each."""
     for letter, draw, text in (("e", encode_call, 0), ("D", decode_call, 0),
-                               ("t", link_call, 1), ("o", listing_call, 27)):
+                               ("t", link_call, 1), ("o", listing_call, 27),
+                               ("w", writing_cases.any_sheet_call, 10)):
         call = draw(generator)
         call["n"] = 0
         for name in records.field_names(letter):

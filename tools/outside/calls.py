@@ -4,8 +4,8 @@ There is one function for each letter.  It takes the numbers and the slices of
 an expanded record by name and gives the numbers of its line, without the
 checksums of the lent slices, and what the call leaves at the start of those
 that it writes.
-The rules are those of scms.py, chips.py, decoding.py, linking.py and
-reading.py.
+The rules are those of scms.py, chips.py, decoding.py, linking.py, reading.py
+and writing.py.
 """
 
 import chips
@@ -14,6 +14,7 @@ import linking
 import reading
 import records
 import scms
+import writing
 
 
 def left_in(names, entries):
@@ -195,6 +196,22 @@ def whole_listing(given):
     return [refusal], {"text": list(printed)}
 
 
+# --- Writers -----------------------------------------------------------------
+
+def written_sheet(given):
+    """w: the sheet of a code."""
+    refusal, data = writing.write_sheet(
+        given["n"], given["map"], given["coefs"], len(given["text"]))
+    return [refusal], left_in(["text"], [data])
+
+
+def written_line(given):
+    """x: the frame line of one place."""
+    refusal, line = writing.write_frame_line(
+        given["frame"], len(given["text"]))
+    return [refusal], left_in(["text"], [line])
+
+
 # --- All of them -------------------------------------------------------------
 
 CALLS = {
@@ -212,6 +229,8 @@ CALLS = {
     "i": place_line,
     "n": number_line,
     "o": whole_listing,
+    "w": written_sheet,
+    "x": written_line,
 }
 
 

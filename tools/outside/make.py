@@ -27,13 +27,14 @@ import program_cases
 import reading_cases
 import records
 import worked_cases
+import writing_cases
 
 CRATES = pathlib.Path(__file__).resolve().parents[2] / "crates"
 
 RECORDED = "recorded_calls"
 
 PARTS = (worked_cases, encode_cases, chip_cases, decode_cases, link_cases,
-         reading_cases, listing_cases, any_cases, chain_cases)
+         reading_cases, listing_cases, any_cases, chain_cases, writing_cases)
 
 # The numbers that each call can give: 0 for one that is taken, else a refusal
 # or a verdict.  For the part of a place its length.
@@ -49,6 +50,8 @@ NUMBERS = {
     "f": (0, 2, 8, 9, 12),
     "g": (0, 2, 8, 9, 12),
     "o": (0, 1, 2, 4, 5, 6, 8, 9),
+    "w": (0, 1, 2, 4, 5, 6),
+    "x": (0, 2, 8, 9),
 }
 
 

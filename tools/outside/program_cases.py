@@ -6,7 +6,8 @@ the folder endings: for each its name, the names of its two files, either of
 them absent where the case says so, and what reading.py says that the program
 prints.  All files come from a fixed generator and are the same bytes in each
 run.  Where only one of the two files is at fault, the other is one that is
-taken.
+taken.  The recorded calls write the files of each pair of which both are
+taken; their records are in writing_cases.py.
 """
 
 import chips
@@ -205,6 +206,10 @@ CASES = (
      "12, since there is no frame"),
     ("sheet_long_256", 12, 8, draw_files, [with_more(b"\n")], [],
      "12, since the sheet of a code of 256 places is too long by one byte"),
+    ("written_8", 0, 3, draw_files, [], [],
+     "the listing of a drawn frame of 8 places"),
+    ("written_32", 0, 5, draw_files, [], [],
+     "the listing of a drawn frame of 32 places"),
 )
 
 

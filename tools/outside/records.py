@@ -31,7 +31,7 @@ BUFFERS = {
 
 # The buffers that keep their contents; the others are all zeros at the start of
 # each record.
-KEPT = ("symbols", "numbers", "samples", "frame")
+KEPT = ("symbols", "numbers", "samples", "frame", "text")
 
 # The numbers and slices of each call in order; a name that is a buffer's is a
 # slice, and one after the bar is lent.
@@ -51,6 +51,8 @@ FIELDS = {
     "i": "place symbol frame |",
     "n": "number |",
     "o": "n map coefs frame | text",
+    "w": "n map coefs | text",
+    "x": "frame | text",
 }
 
 

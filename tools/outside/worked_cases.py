@@ -103,10 +103,32 @@ def sheet_rows():
                         coefs=repeated(1024, 255)), numbers, left
 
 
+def written_sheet_rows():
+    """The worked sheet written; then a code of n = 8, which is taken, and the
+    same with n = 9, which gives 1."""
+    rest = b"   0\n" * 256 + b"   1\n" * 1024
+    call = dict(TWO, coefs=written([2]), text=repeated(20, 255))
+    yield "w", call, [0], dict(text=list(b"   1\n   1\n   0\n   2\n"))
+    call = dict(n=8, map=repeated(256, 0), coefs=repeated(1024, 1),
+                text=repeated(6405, 255))
+    yield "w", call, [0], dict(text=list(b"   8\n" + rest))
+    yield "w", dict(call, n=9), [1], {}
+
+
+def written_line_rows():
+    """The two lines of the worked frame written."""
+    for value, line in (
+            (33, b"   3" * 33 + b"   0" + b"   3" * 30 + b"\n"),
+            (1, b"   3" + b"   0" + b"   3" * 62 + b"\n")):
+        call = dict(frame=written(spike(value, 3)), text=repeated(257, 255))
+        yield "x", call, [0], dict(text=list(line))
+
+
 def rows():
     """All rows: the letter, the call, the numbers answered, what is left."""
     for part in (encode_rows, spread_rows, weigh_rows, decode_rows,
-                 listing_rows, trip_rows, sheet_rows):
+                 listing_rows, trip_rows, sheet_rows, written_sheet_rows,
+                 written_line_rows):
         yield from part()
 
 

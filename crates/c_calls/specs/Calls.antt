@@ -1,4 +1,5 @@
--- What `zithejo_decode` promises. The other two calls promise what `encode` of polar and `demap` of demapper do.
+-- What `zithejo_decode` promises. The other calls promise what `encode` of polar, `demap` of demapper, and
+-- `write_sheet` and `write_frame_line` of writer do.
 use Prim.Native.Nat.{ℕ}
 use mathlib.Core.Path.{_≡_}
 use mathlib.Core.List.{List, [], _∷_}

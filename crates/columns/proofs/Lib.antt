@@ -1,3 +1,4 @@
 pub mod ColumnLaws
 pub mod LineLaws
+pub mod LinesLaws
 pub mod WriteLaws

@@ -33,3 +33,8 @@ fields w (v ∷ vs) = field w v ++ fields w vs
 -- a line: numbers in w columns each, and a line feed (byte 10)
 unfoldable pub line : ℕ → List ℕ → List ℕ
 line w vs = fields w vs ++ 10 ∷ []
+
+-- numbers that each stand on a line of their own, in w columns
+unfoldable pub lines : ℕ → List ℕ → List ℕ
+lines w [] = []
+lines w (v ∷ vs) = line w (v ∷ []) ++ lines w vs

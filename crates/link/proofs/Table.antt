@@ -25,9 +25,12 @@ use Rattle.scms.specs.Nodes.{ordered, checkFrom, checkNode, sumsFrom, sums, les
 use Rattle.scms.specs.Decision.{smallestTo, smallest, decision}
 use Rattle.scms.specs.Mode.{capOf}
 use Rattle.scms.specs.Decoder.{nodes, thetaSymbol, vectors, thetaVector, phiVector, loweredAt, clippedAt, clipCount, heldAt, decidedTo, held, symbols, report, count}
-use Rattle.columns.specs.Columns.{digit, column, before, field, fields, line}
+use Rattle.columns.specs.Columns.{digit, column, before, field, fields, line, lines}
 use Rattle.columns.specs.Reading.{spelledFrom, spelled, same, part, numbers, isLine}
 use Rattle.sheet.specs.CodeSheet.{badLine, numberOn, numbersOn, sheetMap, sheetCoefs, sheetRefusal}
+use Rattle.decoder_refusal.specs.Refusals.{noZero}
+use Rattle.writer.specs.CodeSheet.{sheetOf, sheetWriteRefusal, sheetBuffer}
+use Rattle.writer.specs.FrameLine.{lineWriteRefusal, lineBuffer}
 use Rattle.listing.specs.Listing.{heldFor, otherValue, leastOther, placeLine, numberLine}
 use Rattle.link.specs.Noiseless.{messageSamples, messageFrame, ChainInput, NoiselessPremise}
 use Rattle.link.specs.Rows.{firstLine, sentBy, receivedBy, Worked}
@@ -67,5 +70,5 @@ zero-eight rest frozen cs = row-passed 12 _ (five (firstLine 48 56) rest refl) �
 
 -- every row holds
 pub worked : Worked
-unfolding _⊕_ _⊙_ timesA productBits lowSix theta phi coefficient atKernel atKernels atLayer layer layers transform refusalOf outside anyOutside unequal tabulate joined sumTo leastTo least lessLeast chip symbolChip turned spreadRefusal hardChip magnitude added raw rawLlrs quantised quantisedLlrs llrs vectorAt frameOf demapRefusal sentSample sentSymbol kindOf ordered checkFrom checkNode sumsFrom sums lessFrom subtractLeast clipped exceeding lowered variableNode clippedEntries smallestTo smallest decision capOf nodes thetaSymbol vectors thetaVector phiVector loweredAt clippedAt clipCount heldAt decidedTo held symbols report count symbolAt restAfter wordBefore codewordOf numbersOf withPlace messageOf numberSamples messageSamples messageFrame sheetRefusal sheetMap sheetCoefs badLine numberOn numbersOn part isLine same line fields field before column digit numbers spelled spelledFrom anyTo messageCount messagePlaces placeLine numberLine heldFor otherValue leastOther
+unfolding _⊕_ _⊙_ timesA productBits lowSix theta phi coefficient atKernel atKernels atLayer layer layers transform refusalOf outside anyOutside unequal tabulate joined sumTo leastTo least lessLeast chip symbolChip turned spreadRefusal hardChip magnitude added raw rawLlrs quantised quantisedLlrs llrs vectorAt frameOf demapRefusal sentSample sentSymbol kindOf ordered checkFrom checkNode sumsFrom sums lessFrom subtractLeast clipped exceeding lowered variableNode clippedEntries smallestTo smallest decision capOf nodes thetaSymbol vectors thetaVector phiVector loweredAt clippedAt clipCount heldAt decidedTo held symbols report count symbolAt restAfter wordBefore codewordOf numbersOf withPlace messageOf numberSamples messageSamples messageFrame sheetRefusal sheetMap sheetCoefs badLine numberOn numbersOn part isLine same line fields field before column digit numbers spelled spelledFrom anyTo messageCount messagePlaces placeLine numberLine heldFor otherValue leastOther noZero lines sheetOf sheetWriteRefusal sheetBuffer lineWriteRefusal lineBuffer
 worked = record { rows-hold = refl; samples-sent = refl; premise-fails = fails; premise-holds = holds; nine-gives-1 = nine; zero-eight-gives-12 = zero-eight }

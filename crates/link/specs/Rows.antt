@@ -6,7 +6,7 @@ use mathlib.Core.List.{List, [], _∷_, _++_, map}
 use lib.IntN.{ℤ, pos, negℤ}
 use lib.ListN.{getD, take, set, replicate}
 use Rattle.refusal.specs.Table.{refusalOf}
-use Rattle.vector.specs.Vector.{tabulate}
+use Rattle.vector.specs.Vector.{tabulate, joined}
 use Rattle.gf64.specs.Field.{_⊙_}
 use Rattle.polar_code.specs.Code.{Code, codeOf}
 use Rattle.polar.specs.Transform.{transform}
@@ -19,8 +19,9 @@ use Rattle.demapper.specs.Noiseless.{sentSymbol}
 use Rattle.scms.specs.Mode.{Mode, modeOf}
 use Rattle.scms.specs.Decoder.{held, symbols, report, count}
 use Rattle.decoder_refusal.specs.Refusals.{settingsOf}
-use Rattle.columns.specs.Columns.{line}
 use Rattle.sheet.specs.CodeSheet.{sheetLayers, sheetMap, sheetCoefs, formTable, sheetRefusal}
+use Rattle.writer.specs.CodeSheet.{sheetOf, sheetBuffer}
+use Rattle.writer.specs.FrameLine.{lineBuffer}
 use Rattle.listing.specs.Listing.{placeLine, numberLine}
 use Rattle.link.specs.Noiseless.{Transmission, Reception, messageFrame, ChainInput, NoiselessPremise}
 
@@ -138,22 +139,38 @@ lineRows =
     ∷ record { given = firstRefusal (firstLine 48 56) ∷ []; expected = 12 ∷ [] }
     ∷ []
 
--- the sheet `   1`, `   1`, `   0`, `   2` as it is written, and what the program prints for it and the frame above:
--- for each place a line of four fields of five columns, and the clip count
+-- the sheet `   1`, `   1`, `   0`, `   2` as it is written for that code
 abbrev pub workedSheet : List ℕ
-workedSheet = line 4 (1 ∷ []) ++ (line 4 (1 ∷ []) ++ (line 4 (0 ∷ []) ++ line 4 (2 ∷ [])))
+workedSheet = sheetOf (workedCode 2)
 
--- the rows on that sheet, on what is read from it, and on each line of its listing
+-- a digit in four columns, by its byte
+abbrev pub digitField : ℕ → List ℕ
+digitField byte = 32 ∷ 32 ∷ 32 ∷ byte ∷ []
+
+-- the bytes of a line of 64 penalties: so many times 3, one 0, and so many times 3
+abbrev pub threes : (front rest : ℕ) → List ℕ
+threes front rest =
+    joined front (λ i. digitField 51) ++ (digitField 48 ++ (joined rest (λ i. digitField 51) ++ (10 ∷ [])))
+
+-- the sheet and the two lines of the frame above, as the writers leave them in buffers that held other bytes
+abbrev pub writtenRows : List Row
+writtenRows =
+    record {
+      given = sheetBuffer (workedCode 2) (replicate 20 255);
+      expected = firstLine 32 49 ++ (firstLine 32 49 ++ (firstLine 32 48 ++ firstLine 32 50));
+    }
+    ∷ record { given = lineBuffer (zeroAt 33 3) (replicate 257 255); expected = threes 33 30 }
+    ∷ record { given = lineBuffer (zeroAt 1 3) (replicate 257 255); expected = threes 1 62 }
+    ∷ []
+
+-- what is read from that sheet, and each line that the program prints for it and that frame: for each place four
+-- fields of five columns, and the clip count
 abbrev pub listingRows : List Row
 listingRows =
     let frame = zeroAt 33 3 ++ zeroAt 1 3 in
     let llrs = held (workedCode 2) (modeOf 13) frame in
     let blanks : List ℕ = 32 ∷ 32 ∷ 32 ∷ 32 ∷ [] in
     record {
-      given = workedSheet;
-      expected = firstLine 32 49 ++ (firstLine 32 49 ++ (firstLine 32 48 ++ firstLine 32 50));
-    }
-    ∷ record {
       given = sheetRefusal workedSheet (0 ∷ 0 ∷ []) (0 ∷ []) ∷ sheetLayers workedSheet ∷ [];
       expected = 0 ∷ 1 ∷ [];
     }
@@ -174,7 +191,7 @@ listingRows =
 abbrev pub rows : List Row
 rows =
     productRows ++ (transformRows ++ (baseRows ++ (gainRows ++ (decoderRows (modeOf 1)
-    ++ (decoderRows (modeOf 13) ++ (sheetRows ++ (linkRows ++ (lineRows ++ listingRows))))))))
+    ++ (decoderRows (modeOf 13) ++ (sheetRows ++ (linkRows ++ (lineRows ++ (writtenRows ++ listingRows)))))))))
 
 -- a code and a message sent with base 1 and amplitude 10
 abbrev pub sentBy : Code → (message : List ℕ) → Transmission

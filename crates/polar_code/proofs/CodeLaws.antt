@@ -1,5 +1,5 @@
 -- What the rows that judge a code say of it, and the rows of a longer table that go by its sizes.
-use mathlib.Core.Path.{_≡_, ap, ap₂, _∙_}
+use mathlib.Core.Path.{_≡_, ap₂, _∙_}
 use mathlib.Core.List.{List, [], _∷_, _++_}
 use Prim.Native.Nat.{ℕ, _*_, _/_, _^_}
 use borrow.Author.Tests.{ne-eqb, eqb-false}
@@ -61,10 +61,17 @@ module _ (code : Code) where
       let few = inside-within 1 8 n (none .0) .most in
       ap₂ (λ (places kernels : ℕ). refusalOf (lengthRows places kernels map cs)) (places-are n few) (kernels-are n few))
 
-  -- rows that come after these
+  -- rows that come after these, by the places and the kernels
+  pub after-both-sizes : (rest : (places kernels : ℕ) → List Row) {r : ℕ}
+      → r ≡ refusalOf (codeSizes code ++ rest (placesOf n) (kernelsOf n))
+      → r ≡ refusalOf (codeSizes code ++ rest (2 ^ n) (n * (2 ^ n / 2)))
+  after-both-sizes rest e =
+      e
+      ∙ same-after (codeSizes code) (rest (placesOf n) (kernelsOf n)) (rest (2 ^ n) (n * (2 ^ n / 2))) (λ none.
+      let few = inside-within 1 8 n (none .0) .most in
+      ap₂ (λ (places kernels : ℕ). refusalOf (rest places kernels)) (places-are n few) (kernels-are n few))
+
+  -- and by the places alone
   pub after-sizes : (rest : ℕ → List Row) {r : ℕ} → r ≡ refusalOf (codeSizes code ++ rest (placesOf n))
       → r ≡ refusalOf (codeSizes code ++ rest (2 ^ n))
-  after-sizes rest e =
-      e
-      ∙ same-after (codeSizes code) (rest (placesOf n)) (rest (2 ^ n)) (λ none.
-      ap (λ (places : ℕ). refusalOf (rest places)) (places-are n (inside-within 1 8 n (none .0) .most)))
+  after-sizes rest = after-both-sizes (λ places kernels. rest places)

@@ -11,7 +11,6 @@ use crate::print::print_words;
 use crate::slices::KERNELS;
 use crate::slices::LONGEST;
 use crate::slices::PLACES;
-use crate::slices::TEXT;
 use crate::slices::take_bytes;
 use crate::slices::take_samples;
 use crate::slices::take_words;
@@ -42,15 +41,14 @@ pub(crate) fn run_decode(frame: &mut [u16], symbols: &mut [u8]) -> bool {
 }
 
 // `program_listing::decode_listing`.
-pub(crate) fn run_listing(frame: &mut [u16]) -> bool {
+pub(crate) fn run_listing(frame: &mut [u16], text: &mut [u8]) -> bool {
     let mut map = [0u8; PLACES];
     let mut coefs = [0u8; KERNELS];
-    let mut output = [0u8; TEXT];
     let n = next_number() as usize;
     let map = take_bytes(&mut map);
     let coefs = take_bytes(&mut coefs);
     let frame = take_words(frame);
-    let output = take_bytes(&mut output);
+    let output = take_bytes(text);
     if !ended() {
         return false;
     }
@@ -128,13 +126,17 @@ fn trip_line(
 }
 
 // A record of it.
-pub(crate) fn run_round_trip(samples: &mut [i8], frame: &mut [u16], symbols: &mut [u8]) -> bool {
+pub(crate) fn run_round_trip(
+    samples: &mut [i8],
+    frame: &mut [u16],
+    symbols: &mut [u8],
+    text: &mut [u8],
+) -> bool {
     let mut map = [0u8; PLACES];
     let mut coefs = [0u8; KERNELS];
     let mut message = [0u8; PLACES];
     let mut work = [0u16; LONGEST];
     let mut report = [0u16; LONGEST];
-    let mut decoded = [0u8; TEXT];
     let n = next_number() as usize;
     let map = take_bytes(&mut map);
     let coefs = take_bytes(&mut coefs);
@@ -145,7 +147,7 @@ pub(crate) fn run_round_trip(samples: &mut [i8], frame: &mut [u16], symbols: &mu
     let work = take_words(&mut work);
     let symbols = take_bytes(symbols);
     let report = take_words(&mut report);
-    let decoded = take_bytes(&mut decoded);
+    let decoded = take_bytes(text);
     if !ended() {
         return false;
     }

@@ -12,6 +12,7 @@ mod sending;
 mod slices;
 mod sums;
 mod values;
+mod writing;
 
 use crate::decoding::run_decode;
 use crate::decoding::run_listing;
@@ -34,6 +35,9 @@ use crate::sending::run_spread;
 use crate::slices::LONGEST;
 use crate::slices::NUMBERS;
 use crate::slices::PLACES;
+use crate::slices::TEXT;
+use crate::writing::run_write_line;
+use crate::writing::run_write_sheet;
 
 // The most records that a run makes.
 const MOST_RECORDS: usize = 1000000;
@@ -46,6 +50,7 @@ fn run_record(
     numbers: &mut [u64],
     samples: &mut [i8],
     frame: &mut [u16],
+    text: &mut [u8],
 ) -> bool {
     match letter {
         b'e' => run_encode(symbols),
@@ -54,14 +59,16 @@ fn run_record(
         b'd' => run_demap(samples, frame),
         b'p' => run_part(frame),
         b'D' => run_decode(frame, symbols),
-        b't' => run_round_trip(samples, frame, symbols),
-        b'o' => run_listing(frame),
-        b'h' => run_sheet(),
-        b'l' => run_frame_line(frame),
-        b'f' => run_feed(frame),
+        b't' => run_round_trip(samples, frame, symbols, text),
+        b'o' => run_listing(frame, text),
+        b'h' => run_sheet(text),
+        b'l' => run_frame_line(frame, text),
+        b'f' => run_feed(frame, text),
         b'g' => run_end(),
         b'i' => run_place_line(frame),
         b'n' => run_number_line(),
+        b'w' => run_write_sheet(text),
+        b'x' => run_write_line(frame, text),
         _ => false,
     }
 }
@@ -72,6 +79,7 @@ fn main() {
     let mut numbers = [0u64; NUMBERS];
     let mut samples = [0i8; LONGEST];
     let mut frame = [0u16; LONGEST];
+    let mut text = [0u8; TEXT];
     let mut i: usize = 0;
     while i < MOST_RECORDS {
         let letter = next_byte();
@@ -79,7 +87,14 @@ fn main() {
             return;
         }
         end_token();
-        let kept = run_record(letter, &mut symbols, &mut numbers, &mut samples, &mut frame);
+        let kept = run_record(
+            letter,
+            &mut symbols,
+            &mut numbers,
+            &mut samples,
+            &mut frame,
+            &mut text,
+        );
         i += 1;
         if !kept {
             print_broken(i);

@@ -10,7 +10,6 @@ use crate::print::print_number;
 use crate::print::print_words;
 use crate::slices::KERNELS;
 use crate::slices::PLACES;
-use crate::slices::TEXT;
 use crate::slices::take_bytes;
 use crate::slices::take_words;
 use crate::sums::byte_sum;
@@ -28,11 +27,10 @@ fn print_layers(answer: Answer) {
 }
 
 // `sheet::read_sheet`.
-pub(crate) fn run_sheet() -> bool {
-    let mut bytes = [0u8; TEXT];
+pub(crate) fn run_sheet(text: &mut [u8]) -> bool {
     let mut map = [0u8; PLACES];
     let mut coefs = [0u8; KERNELS];
-    let bytes = take_bytes(&mut bytes);
+    let bytes = take_bytes(text);
     let map = take_bytes(&mut map);
     let coefs = take_bytes(&mut coefs);
     if !ended() {
@@ -45,9 +43,8 @@ pub(crate) fn run_sheet() -> bool {
 }
 
 // `sheet::read_frame_line`.
-pub(crate) fn run_frame_line(frame: &mut [u16]) -> bool {
-    let mut line = [0u8; TEXT];
-    let line = take_bytes(&mut line);
+pub(crate) fn run_frame_line(frame: &mut [u16], text: &mut [u8]) -> bool {
+    let line = take_bytes(text);
     let llrs = take_words(frame);
     if !ended() {
         return false;
@@ -58,10 +55,9 @@ pub(crate) fn run_frame_line(frame: &mut [u16]) -> bool {
 }
 
 // `frame_file::feed_line`.
-pub(crate) fn run_feed(frame: &mut [u16]) -> bool {
-    let mut line = [0u8; TEXT];
+pub(crate) fn run_feed(frame: &mut [u16], text: &mut [u8]) -> bool {
     let verdict = next_u8();
-    let line = take_bytes(&mut line);
+    let line = take_bytes(text);
     let llrs = take_words(frame);
     if !ended() {
         return false;

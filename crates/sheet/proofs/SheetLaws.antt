@@ -314,12 +314,12 @@ sheet-numbers bytes map coefs room space = go (ℕ-discrete (refusalOf (formTabl
 -- ---- what a sheet that was read leaves: a code at the start of the two buffers
 module _ {bytes map coefs m c : List ℕ} {n : ℕ} (read : SheetRead bytes map coefs m c (Layers n)) where
   -- the sheet was accepted
-  accepted : sheetRefusal bytes map coefs ≡ 0
+  pub accepted : sheetRefusal bytes map coefs ≡ 0
   unfolding returned sheetAnswer
   accepted = sym (ap (λ (x : Returned). x .number) (read .answer))
 
   -- n is what stands on its first line
-  layers-are : n ≡ sheetLayers bytes
+  pub layers-are : n ≡ sheetLayers bytes
   unfolding returned sheetAnswer
   layers-are =
       ap (λ (x : Returned). getD (x .values) 0 0) (read .answer)
@@ -334,12 +334,12 @@ module _ {bytes map coefs m c : List ℕ} {n : ℕ} (read : SheetRead bytes map 
   unfolding coefsRead
   coefs-after = read .coefs-are ∙ when-accepted (sheetRefusal bytes map coefs) (sheetCoefs bytes ++ drop (sheetKernels bytes) coefs) coefs accepted
 
-  map-front : take (2 ^ n) m ≡ sheetMap bytes
+  pub map-front : take (2 ^ n) m ≡ sheetMap bytes
   map-front =
       ap₂ (λ (k : ℕ) (xs : List ℕ). take (2 ^ k) xs) layers-are map-after
       ∙ take-at (sheetMap bytes) (drop (sheetPlaces bytes) map) (sheetPlaces bytes) (read .code accepted .map-long)
 
-  coefs-front : take (n * (2 ^ n / 2)) c ≡ sheetCoefs bytes
+  pub coefs-front : take (n * (2 ^ n / 2)) c ≡ sheetCoefs bytes
   coefs-front =
       ap₂ (λ (k : ℕ) (xs : List ℕ). take (k * (2 ^ k / 2)) xs) layers-are coefs-after
       ∙ take-at (sheetCoefs bytes) (drop (sheetKernels bytes) coefs) (sheetKernels bytes) (read .code accepted .coefs-long)

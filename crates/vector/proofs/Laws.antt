@@ -38,7 +38,7 @@ module _ {A : Type 0} where
       ap₂ (λ (x : A) (xs : List A). x ∷ xs) (h 0 (omega arith)) (tabulate-ext n (λ i. f (suc i)) (λ i. g (suc i)) (λ i l. h (suc i) (omega arith)))
 
   -- a tabulated list in two parts
-  tabulate-parts : (m n : ℕ) (f : ℕ → A) → tabulate (m + n) f ≡ tabulate m f ++ tabulate n (λ i. f (m + i))
+  pub tabulate-parts : (m n : ℕ) (f : ℕ → A) → tabulate (m + n) f ≡ tabulate m f ++ tabulate n (λ i. f (m + i))
   unfolding tabulate
   tabulate-parts zero n f = ap (λ (k : ℕ). tabulate k f) (zero-add n) ∙ tabulate-ext n f (λ i. f (0 + i)) (λ i l. ap f (sym (zero-add i)))
   tabulate-parts (suc m) n f =

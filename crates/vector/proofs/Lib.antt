@@ -1,4 +1,5 @@
 pub mod Laws
+pub mod JoinedLaws
 pub mod SliceLaws
 pub mod FrameLaws
 pub mod PartLaws

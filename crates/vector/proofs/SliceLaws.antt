@@ -1,9 +1,9 @@
 -- The vectors of a slice: where they lie, those of parts and of joined slices, and what a vector stored leaves.
 use mathlib.Core.Path.{_≡_, refl, sym, ap, ap₂, _∙_, subst}
-use mathlib.Core.List.{List, [], _∷_, _++_, append-assoc}
-use Prim.Native.Nat.{ℕ, zero, suc, _+_, _-_, _*_, _/_, _≤_, _<_}
+use mathlib.Core.List.{List, _++_, append-assoc}
+use Prim.Native.Nat.{ℕ, _+_, _-_, _*_, _/_, _≤_, _<_}
 use native.Mathlib.Decide.{decLe, decLt}
-use native.Mathlib.Nat.{le-refl, le-of-eq}
+use native.Mathlib.Nat.{le-of-eq}
 use native.Mathlib.Numerals.{add-one}
 use native.Mathlib.Omega.{arith}
 use borrow.Author.Tests.{lt-ltb, le-ltb}
@@ -11,6 +11,7 @@ use lib.ListN.{length, getD, take, drop, set, length-set, length-append, length-
 use lib.Seq.{length-take-le, take-all, take-at, drop-at, take-append-le, drop-append-le, take-append-add, drop-append-add, getD-take, getD-drop, drop-drop, paste, paste-zero, paste-suc}
 use Rattle.vector.specs.Vector.{tabulate, vectorAt, joined, withVector, stored}
 use Rattle.vector.proofs.Laws.{length-tabulate, getD-tabulate, tabulate-by}
+use Rattle.vector.proofs.JoinedLaws.{joined-parts}
 
 -- ---- where a vector lies
 
@@ -62,15 +63,8 @@ vector-drop n xs i =
 
 -- a slice is its vectors, one after the other
 pub joined-by : (n : ℕ) (f : ℕ → List ℕ) (xs : List ℕ) → length xs ≡ 64 * n → ((i : ℕ) → i < n → vectorAt xs i ≡ f i) → xs ≡ joined n f
-unfolding joined vectorAt
-joined-by zero f [] e h = refl
-joined-by zero f (x ∷ xs) e h = absurd (omega arith)
-joined-by (suc n) f xs e h =
-    let l : 64 * n ≤ length xs = omega arith in
-    sym (take-append-drop (64 * n) xs)
-    ∙ ap₂ (λ (ys zs : List ℕ). ys ++ zs)
-    (joined-by n f (take (64 * n) xs) (length-take-le (64 * n) xs l) (λ i k. vector-take n xs i k ∙ h i (omega arith)))
-    (sym (take-all 64 (drop (64 * n) xs) (simp length-drop (omega arith))) ∙ h n (le-refl (suc n)))
+unfolding vectorAt
+joined-by n f xs e h = joined-parts 64 f xs n e h
 
 -- ---- a vector stored: f 0, f 1, .., f 63 as vector i of a slice that has one
 

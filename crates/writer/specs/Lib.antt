@@ -1,0 +1,3 @@
+pub mod CodeSheet
+pub mod FrameLine
+pub mod Parts
