@@ -10,7 +10,7 @@ use Rattle.refusal.specs.Table.{refusalOf, Numbered}
 use Rattle.refusal.proofs.Laws.{accepted-none, none-accepted, when-accepted, when-refused}
 use Rattle.refusal.proofs.WalkLaws.{numbered}
 use Rattle.refusal.proofs.Within.{false-equal, equal-false}
-use Rattle.columns.specs.Columns.{line, lines}
+use Rattle.columns.specs.Columns.{lines}
 use Rattle.columns.proofs.LinesLaws.{lines-append}
 use Rattle.polar_code.specs.Code.{Code, codeSizes, IsCode}
 use Rattle.polar_code.specs.Sizes.{placesOf, kernelsOf}
@@ -21,11 +21,12 @@ use Rattle.writer.specs.Parts.{SheetRoom}
 
 -- the sheet by its three parts
 pub three-parts : (code : Code)
-    → (line 4 (code .n ∷ []) ++ lines 4 (code .map)) ++ lines 4 (code .coefs) ≡ sheetOf code
-unfolding sheetOf lines
+    → (lines 4 (code .n ∷ []) ++ lines 4 (code .map)) ++ lines 4 (code .coefs) ≡ sheetOf code
+unfolding sheetOf
 three-parts code =
-    append-assoc (line 4 (code .n ∷ [])) (lines 4 (code .map)) (lines 4 (code .coefs))
-    ∙ ap (λ (xs : List ℕ). line 4 (code .n ∷ []) ++ xs) (sym (lines-append 4 (code .map) (code .coefs)))
+    append-assoc (lines 4 (code .n ∷ [])) (lines 4 (code .map)) (lines 4 (code .coefs))
+    ∙ ap (λ (xs : List ℕ). lines 4 (code .n ∷ []) ++ xs) (sym (lines-append 4 (code .map) (code .coefs)))
+    ∙ sym (lines-append 4 (code .n ∷ []) (code .map ++ code .coefs))
 
 -- a code has at most 256 map bytes, and at most 1,024 coefficients
 pub few-places : (code : Code) → IsCode code → length (code .map) ≤ 256

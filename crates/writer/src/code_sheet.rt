@@ -41,8 +41,9 @@ fn write_code(n: usize, map: &[u8], coefs: &[u8], out: &mut [u8])
     requires { ⌜ SheetRoom (codeOf n (now map) (now coefs)) (now out) ⌝ }
     ensures { λ _. ⌜ now (out .exit) ≡ sheetOf (codeOf n (now (map .entry)) (now (coefs .entry))) ⌝ }
 {
+    let layers = [n as u8];
     let coefs_at = LINE + LINE * map.len();
-    write_line(n as u8, &mut out[..LINE]);
+    write_lines(&layers, &mut out[..LINE]);
     write_lines(map, &mut out[LINE..coefs_at]);
     write_lines(coefs, &mut out[coefs_at..]);
 }
