@@ -35,11 +35,8 @@ returns c =
 
 pub write-line-spec : {M : Type 1} → statement M
 write-line-spec =
-    tie.close
-    (tie.spec
+    tie.close (tie.spec
     (λ c. search needs)
     slice-aggregate-write-number
-    (λ c κs. search needs)
-    (λ c. search needs)
-    (λ c. search needs)
+    (λ c κs. search needs) (λ c. search needs) (λ c. search needs)
     returns)
