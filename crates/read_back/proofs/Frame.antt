@@ -223,8 +223,8 @@ module _ (places : ℕ) (frame : List ℕ) (long : length frame ≡ 64 * places)
           )
 
 -- the lines of a frame are a frame file
-pub frame-read-back : (places : ℕ) (frame : List ℕ) (before after : ℕ → List ℕ) (r : ℕ → ℕ) → length frame ≡ 64 * places
-    → FrameWritten places frame before after r → FrameReadBack places frame before after r
+pub frame-read-back : (places : ℕ) (frame : List ℕ) (before after : ℕ → List ℕ) (r : ℕ → ℕ)
+    → FrameReadBack places frame before after r
 frame-read-back places frame before after r long done = record {
   accepted = all-accepted places frame long before after r done;
   read = λ none. record {

@@ -1,6 +1,6 @@
 -- A line of a frame file written and then read, and read and then written; and the lines of a whole frame. The premises
 -- are what the calls promise.
-use Prim.Native.Nat.{ℕ, _<_}
+use Prim.Native.Nat.{ℕ, _*_, _<_}
 use mathlib.Core.Path.{_≡_}
 use mathlib.Core.List.{List}
 use lib.ListN.{length, getD}
@@ -49,10 +49,15 @@ pub record FrameRead (places : ℕ) (frame : List ℕ) (lines : ℕ → List ℕ
   pub verdict : frameVerdict places (joined places lines) ≡ 0
   pub numbers : frameLlrs places (joined places lines) ≡ frame
 
--- this holds of any slice of N vectors whose lines were all accepted; and of a frame at Qc = 5 all lines are
-pub record FrameReadBack (places : ℕ) (frame : List ℕ) (before after : ℕ → List ℕ) (r : ℕ → ℕ) : Type 0 where
+-- so it is where all calls accepted their input; and those for a frame at Qc = 5 do
+pub record FrameLines (places : ℕ) (frame : List ℕ) (before after : ℕ → List ℕ) (r : ℕ → ℕ) : Type 0 where
   pub accepted : IsFrame 5 frame → LinesLent places before → AllAccepted places r
   pub read : AllAccepted places r → FrameRead places frame after
+
+-- this holds for every number of places and any penalties, 64 for each place
+abbrev pub FrameReadBack : (places : ℕ) (frame : List ℕ) (before after : ℕ → List ℕ) (r : ℕ → ℕ) → Type 0
+FrameReadBack places frame before after r =
+    length frame ≡ 64 * places → FrameWritten places frame before after r → FrameLines places frame before after r
 
 -- a frame file that is accepted: its numbers, written line by line, are accepted and give the same bytes
 abbrev pub FrameWrittenBack : (places : ℕ) (bytes : List ℕ) (before after : ℕ → List ℕ) (r : ℕ → ℕ) → Type 0

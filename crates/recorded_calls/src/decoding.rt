@@ -1,5 +1,6 @@
 // The calls that decode: the decoder, the round trip and the program's listing. Each function reads the record of one
-// call, makes the call and prints the line. It returns whether the record kept its form; if not, no call is made.
+// call from after the code on, makes the call and prints the line. It returns whether the record kept its form; if not,
+// no call is made.
 use crate::input::ended;
 use crate::input::next_number;
 use crate::input::next_u32;
@@ -8,7 +9,6 @@ use crate::print::print_count;
 use crate::print::print_number;
 use crate::print::print_samples;
 use crate::print::print_words;
-use crate::slices::KERNELS;
 use crate::slices::LONGEST;
 use crate::slices::PLACES;
 use crate::slices::take_bytes;
@@ -16,14 +16,15 @@ use crate::slices::take_samples;
 use crate::slices::take_words;
 
 // `decoder::decode`.
-pub(crate) fn run_decode(frame: &mut [u16], symbols: &mut [u8]) -> bool {
-    let mut map = [0u8; PLACES];
-    let mut coefs = [0u8; KERNELS];
+pub(crate) fn run_decode(
+    n: usize,
+    map: &[u8],
+    coefs: &[u8],
+    frame: &mut [u16],
+    symbols: &mut [u8],
+) -> bool {
     let mut work = [0u16; LONGEST];
     let mut report = [0u16; LONGEST];
-    let n = next_number() as usize;
-    let map = take_bytes(&mut map);
-    let coefs = take_bytes(&mut coefs);
     let qc = next_u32();
     let qm = next_u32();
     let frame = take_words(frame);
@@ -41,12 +42,13 @@ pub(crate) fn run_decode(frame: &mut [u16], symbols: &mut [u8]) -> bool {
 }
 
 // `program_listing::decode_listing`.
-pub(crate) fn run_listing(frame: &mut [u16], text: &mut [u8]) -> bool {
-    let mut map = [0u8; PLACES];
-    let mut coefs = [0u8; KERNELS];
-    let n = next_number() as usize;
-    let map = take_bytes(&mut map);
-    let coefs = take_bytes(&mut coefs);
+pub(crate) fn run_listing(
+    n: usize,
+    map: &[u8],
+    coefs: &[u8],
+    frame: &mut [u16],
+    text: &mut [u8],
+) -> bool {
     let frame = take_words(frame);
     let output = take_bytes(text);
     if !ended() {
@@ -127,19 +129,17 @@ fn trip_line(
 
 // A record of it.
 pub(crate) fn run_round_trip(
+    n: usize,
+    map: &[u8],
+    coefs: &[u8],
     samples: &mut [i8],
     frame: &mut [u16],
     symbols: &mut [u8],
     text: &mut [u8],
 ) -> bool {
-    let mut map = [0u8; PLACES];
-    let mut coefs = [0u8; KERNELS];
     let mut message = [0u8; PLACES];
     let mut work = [0u16; LONGEST];
     let mut report = [0u16; LONGEST];
-    let n = next_number() as usize;
-    let map = take_bytes(&mut map);
-    let coefs = take_bytes(&mut coefs);
     let message = take_bytes(&mut message);
     let link = next_link();
     let samples = take_samples(samples);

@@ -1,6 +1,6 @@
 // The calls from a message to a frame: encoder, spreading, weighing; and the channel between the last two. Each
-// function reads the record of one call, makes the call and prints the line. It returns whether the record kept its
-// form; if not, no call is made.
+// function reads the record of one call, that of the encoder from after the code on, makes the call and prints the
+// line. It returns whether the record kept its form; if not, no call is made.
 use crate::channel::Channel;
 use crate::channel::make_samples;
 use crate::input::ended;
@@ -11,7 +11,6 @@ use crate::print::print_bytes;
 use crate::print::print_next;
 use crate::print::print_number;
 use crate::print::print_words;
-use crate::slices::KERNELS;
 use crate::slices::LONGEST;
 use crate::slices::PLACES;
 use crate::slices::put_samples;
@@ -23,13 +22,8 @@ use crate::sums::number_sum;
 use crate::sums::sample_sum;
 
 // `polar::encode`.
-pub(crate) fn run_encode(symbols: &mut [u8]) -> bool {
-    let mut map = [0u8; PLACES];
-    let mut coefs = [0u8; KERNELS];
+pub(crate) fn run_encode(n: usize, map: &[u8], coefs: &[u8], symbols: &mut [u8]) -> bool {
     let mut message = [0u8; PLACES];
-    let n = next_number() as usize;
-    let map = take_bytes(&mut map);
-    let coefs = take_bytes(&mut coefs);
     let message = take_bytes(&mut message);
     let codeword = take_bytes(symbols);
     if !ended() {

@@ -1,21 +1,13 @@
-// The writers of sheets and frames. Each function reads the record of one call, makes the call and prints the line. It
-// returns whether the record kept its form; if not, no call is made.
+// The writers of sheets and frames. Each function reads the record of one call, that of a sheet from after the code on,
+// makes the call and prints the line. It returns whether the record kept its form; if not, no call is made.
 use crate::input::ended;
-use crate::input::next_number;
 use crate::print::print_bytes;
 use crate::print::print_number;
-use crate::slices::KERNELS;
-use crate::slices::PLACES;
 use crate::slices::take_bytes;
 use crate::slices::take_words;
 
 // `writer::write_sheet`.
-pub(crate) fn run_write_sheet(text: &mut [u8]) -> bool {
-    let mut map = [0u8; PLACES];
-    let mut coefs = [0u8; KERNELS];
-    let n = next_number() as usize;
-    let map = take_bytes(&mut map);
-    let coefs = take_bytes(&mut coefs);
+pub(crate) fn run_write_sheet(n: usize, map: &[u8], coefs: &[u8], text: &mut [u8]) -> bool {
     let out = take_bytes(text);
     if !ended() {
         return false;

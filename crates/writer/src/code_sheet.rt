@@ -10,7 +10,10 @@ ghost use Rattle.polar_code.specs.Code.{codeOf};
 ghost use Rattle.writer.specs.CodeSheet.{sheetOf, sheetWriteRefusal, SheetWritten};
 ghost use Rattle.writer.specs.Parts.{LinesRoom, SheetRoom};
 
-// The bytes of a line of a sheet: four columns, and a line feed.
+// The columns of a number.
+const COLUMNS: usize = 4;
+
+// The bytes of a line of a sheet: these, and a line feed.
 const LINE: usize = 5;
 
 // Writes the line of one number.
@@ -18,8 +21,8 @@ fn write_line(v: u8, out: &mut [u8])
     requires { ⌜ length (now out) ≡ 5 ⌝ }
     ensures { λ _. ⌜ now (out .exit) ≡ line 4 (v ∷ []) ⌝ }
 {
-    write_number(v as u32, &mut out[..4]);
-    out[4] = 10;
+    write_number(v as u32, &mut out[..COLUMNS]);
+    out[COLUMNS] = 10;
 }
 
 // Writes numbers, each on a line of its own.
