@@ -75,9 +75,9 @@ pub extern "C" fn zithejo_decode(
     }
 }
 
-// Writes the sheet of a code, the file code.txt of the program, as `writer::write_sheet`. Returns 0, with the
-// sheet in the buffer lent for it, which has just its length, 5 × (1 + N + n × N/2) bytes; or the lowest refusal of 1,
-// 2, 4, 5 and 6 that fits, and leaves the buffer as it came.
+// Writes the sheet of a code, the file code.txt of the program, as `writer::write_sheet`. Returns 0, with the sheet in
+// the buffer lent for it, which has just its length, 5 × (1 + N + n × N/2) bytes; or the lowest refusal of 1, 2, 4, 5
+// and 6 that fits, and leaves the buffer as it came.
 #[no_mangle]
 pub extern "C" fn zithejo_write_sheet(n: usize, map: &[u8], coefs: &[u8], out: &mut [u8]) -> u8
     ensures { λ r. ⌜ SheetWritten (codeOf n (now (map .entry)) (now (coefs .entry))) (now (out .entry))
@@ -86,9 +86,9 @@ pub extern "C" fn zithejo_write_sheet(n: usize, map: &[u8], coefs: &[u8], out: &
     writer::write_sheet(n, map, coefs, out)
 }
 
-// Writes one place's 64 penalties as a line of a frame file, as `writer::write_frame_line`; the lines of all
-// places, one after the other, are the file frame.txt of the program. Returns 0, with the line in the 257 bytes lent
-// for it; or the lowest refusal of 2, 8 and 9 that fits, and leaves them as they came.
+// Writes one place's 64 penalties as a line of a frame file, as `writer::write_frame_line`; the lines of all places,
+// one after the other, are the file frame.txt of the program. Returns 0, with the line in the 257 bytes lent for it; or
+// the lowest refusal of 2, 8 and 9 that fits, and leaves them as they came.
 #[no_mangle]
 pub extern "C" fn zithejo_write_frame_line(llrs: &[u16], line: &mut [u8]) -> u8
     ensures { λ r. ⌜ LineWritten (now (llrs .entry)) (now (line .entry)) (now (line .exit)) r ⌝ }

@@ -56,7 +56,7 @@ part-long at k out l =
     length-take-le (at + k - at) (drop at out) (omega arith) ∙ w
 
 -- the part has come back with k bytes: what stood before it, and these
-pub put-after : (at k : ℕ) (out front part : List ℕ) → at + k ≤ length out → take at out ≡ front → length part ≡ k
+put-after : (at k : ℕ) (out front part : List ℕ) → at + k ≤ length out → take at out ≡ front → length part ≡ k
     → take (at + k) (putMid at (at + k - at) out part) ≡ front ++ part
 put-after at k out front part l e long =
     let rest = drop (at + k - at) (drop at out) in

@@ -20,7 +20,7 @@ pub tail-drop : (h : ℕ) (xs : List ℕ) → tail h xs ≡ drop h xs
 tail-drop h xs = take-all (length xs - h) (drop h xs) (le-of-eq (length-drop h xs))
 
 -- the whole is what was kept and then the part
-pub put-append : (h : ℕ) (xs ys : List ℕ) → put h xs ys ≡ take h xs ++ ys
+put-append : (h : ℕ) (xs ys : List ℕ) → put h xs ys ≡ take h xs ++ ys
 put-append h xs ys =
     ap (λ (l : List ℕ). take h xs ++ l)
     (ap (λ (l : List ℕ). ys ++ l) (drop-of-length-le (drop h xs) (le-of-eq (length-drop h xs))) ∙ append-nil ys)

@@ -1,6 +1,6 @@
 -- What it means that `write_sheet` accepts a code, and how the sheet is put together.
-use mathlib.Core.Path.{_≡_, sym, ap, _∙_}
-use mathlib.Core.List.{List, [], _∷_, _++_, append-assoc}
+use mathlib.Core.Path.{_≡_, sym, _∙_}
+use mathlib.Core.List.{List, [], _∷_, _++_}
 use Prim.Native.Nat.{ℕ, _*_, _/_, _^_, _≤_}
 use native.Mathlib.Nat.{mul-le-mul-right}
 use native.Mathlib.Omega.{arith}
@@ -19,14 +19,10 @@ use Rattle.writer.specs.CodeSheet.{sheetLength, sheetOf, outputRows, she
 use Rattle.writer.specs.CodeSheet.{sheetBuffer, SheetWritten}
 use Rattle.writer.specs.Parts.{SheetRoom}
 
--- the sheet by its three parts
-pub three-parts : (code : Code)
-    → (lines 4 (code .n ∷ []) ++ lines 4 (code .map)) ++ lines 4 (code .coefs) ≡ sheetOf code
+-- the sheet by its two parts: the line of n, and those of the map and the coefficients
+pub two-parts : (code : Code) → lines 4 (code .n ∷ []) ++ lines 4 (code .map ++ code .coefs) ≡ sheetOf code
 unfolding sheetOf
-three-parts code =
-    append-assoc (lines 4 (code .n ∷ [])) (lines 4 (code .map)) (lines 4 (code .coefs))
-    ∙ ap (λ (xs : List ℕ). lines 4 (code .n ∷ []) ++ xs) (sym (lines-append 4 (code .map) (code .coefs)))
-    ∙ sym (lines-append 4 (code .n ∷ []) (code .map ++ code .coefs))
+two-parts code = sym (lines-append 4 (code .n ∷ []) (code .map ++ code .coefs))
 
 -- a code has at most 256 map bytes, and at most 1,024 coefficients
 pub few-places : (code : Code) → IsCode code → length (code .map) ≤ 256

@@ -3,12 +3,12 @@ use columns::write_number;
 use polar_code::kernel_count;
 use polar_code::place_count;
 ghost use mathlib.Core.Path.{_≡_};
-ghost use mathlib.Core.List.{[], _∷_};
+ghost use mathlib.Core.List.{[], _∷_, _++_};
 ghost use lib.ListN.{length};
 ghost use Rattle.columns.specs.Columns.{line, lines};
 ghost use Rattle.polar_code.specs.Code.{codeOf};
 ghost use Rattle.writer.specs.CodeSheet.{sheetOf, sheetWriteRefusal, SheetWritten};
-ghost use Rattle.writer.specs.Parts.{LinesRoom, SheetRoom};
+ghost use Rattle.writer.specs.Parts.{LinesRoom, BothRoom, SheetRoom};
 
 // The columns of a number.
 const COLUMNS: usize = 4;
@@ -39,16 +39,24 @@ fn write_lines(numbers: &[u8], out: &mut [u8])
     }
 }
 
+// Writes the numbers of two slices, those of the first before those of the second, each on a line of its own.
+fn write_both(first: &[u8], second: &[u8], out: &mut [u8])
+    requires { ⌜ BothRoom (now first) (now second) (now out) ⌝ }
+    ensures { λ _. ⌜ now (out .exit) ≡ lines 4 (now (first .entry) ++ now (second .entry)) ⌝ }
+{
+    let at = LINE * first.len();
+    write_lines(first, &mut out[..at]);
+    write_lines(second, &mut out[at..]);
+}
+
 // Writes the sheet of a code: n, the map, the coefficients.
 fn write_code(n: usize, map: &[u8], coefs: &[u8], out: &mut [u8])
     requires { ⌜ SheetRoom (codeOf n (now map) (now coefs)) (now out) ⌝ }
     ensures { λ _. ⌜ now (out .exit) ≡ sheetOf (codeOf n (now (map .entry)) (now (coefs .entry))) ⌝ }
 {
     let layers = [n as u8];
-    let coefs_at = LINE + LINE * map.len();
     write_lines(&layers, &mut out[..LINE]);
-    write_lines(map, &mut out[LINE..coefs_at]);
-    write_lines(coefs, &mut out[coefs_at..]);
+    write_both(map, coefs, &mut out[LINE..]);
 }
 
 // The number by which `write_sheet` refuses, 0 where it accepts its input: the first test that fits, in document 01's
