@@ -805,8 +805,9 @@ INLINE void add_sample(vec *sums, const vec *turns, int copy, vec sample)
 }
 
 /* The 64 sums of the samples of one symbol, each sample counted positive where
- * the chip of s is 0 and negative where it is 1.  A sum stands for itself plus
- * one half, so that turning all its bits changes the sign. */
+ * the chip of s is 0 and negative where it is 1, and a lost sample, -128, as
+ * 0.  A sum stands for itself plus one half, so that turning all its bits
+ * changes the sign. */
 INLINE void correlate(vec *sums, const struct base *base, const int8_t *samples)
 {
 #pragma GCC unroll 8
@@ -814,9 +815,11 @@ INLINE void correlate(vec *sums, const struct base *base, const int8_t *samples)
         sums[i] = base->last[i];
     }
     const vec *turns = base->turns[0];
+    const vec lost = _mm_set1_epi8(-128);
 #pragma GCC unroll 1
     for (int g = 0; g < 8; g++, samples += 8, turns++) {
         vec v = _mm_loadl_epi64((const vec *)samples);
+        v = _mm_andnot_si128(_mm_cmpeq_epi8(v, lost), v);
         v = _mm_srai_epi16(_mm_unpacklo_epi8(v, v), 8);
         vec low = _mm_unpacklo_epi16(v, v), high = _mm_unpackhi_epi16(v, v);
         add_sample(sums, turns, 0, _mm_shuffle_epi32(low, 0x00));

@@ -484,6 +484,12 @@ fn any_encode(draws: &mut Draws, n: usize) -> Encode {
     encode
 }
 
+/// Samples with one of every `kept + 1` lost, about.
+fn with_lost(samples: Vec<i8>, draws: &mut Draws) -> Vec<i8> {
+    let kept = draws.pick(&[1, 2, 8, 64]);
+    samples.into_iter().map(|sample| if draws.below(kept + 1) < kept { sample } else { -128 }).collect()
+}
+
 /// An input the weigher takes.
 fn any_demap(draws: &mut Draws, symbols: usize) -> Demap {
     let guard = random_guard(draws);
@@ -494,8 +500,9 @@ fn any_demap(draws: &mut Draws, symbols: usize) -> Demap {
     };
     let base = if base == base.rotate_left(32) { BASE } else { base };
     let word: Vec<u8> = (0..symbols).map(|_| draws.below(64) as u8).collect();
-    let samples: Vec<i8> = match draws.below(4) {
+    let samples: Vec<i8> = match draws.below(5) {
         0 => noisy_samples(draws, base, &word),
+        4 => with_lost(noisy_samples(draws, base, &word), draws),
         1 => (0..64 * symbols).map(|_| draws.pick(&[-128, -127, -1, 0, 1, 127])).collect(),
         2 => vec![draws.pick(&[-128, 0, 127]); 64 * symbols],
         _ => (0..64 * symbols).map(|_| draws.next() as i8).collect(),

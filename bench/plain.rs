@@ -155,10 +155,15 @@ fn raw_penalties(base: u64, samples: &[i8]) -> [u32; 64] {
     for (symbol, sum) in raw.iter_mut().enumerate() {
         for (&sample, &chip) in samples.iter().zip(&chips[symbol..symbol + 64]) {
             let differs = (sample < 0) != chip;
-            *sum += differs as u32 * sample.unsigned_abs() as u32;
+            *sum += differs as u32 * magnitude(sample);
         }
     }
     raw
+}
+
+/// The magnitude of a sample; that of -128, which stands for a lost chip, is 0.
+fn magnitude(sample: i8) -> u32 {
+    if sample == -128 { 0 } else { sample.unsigned_abs() as u32 }
 }
 
 /// Decodes a frame of penalties into symbols, the report and the count of clipped entries.
@@ -399,6 +404,19 @@ mod tests {
             assert_eq!(demap(1, &samples, 1, bottom, 3, &mut llrs), 0);
             assert_eq!(llrs.to_vec(), zero_at(0, other));
         }
+    }
+
+    #[test]
+    fn lost_samples() {
+        let mut samples = [10; 64];
+        let mut llrs = [9; 64];
+        for (first, other) in [(-128, 2), (0, 2), (-127, 7), (-2, 3)] {
+            samples[0] = first;
+            assert_eq!(demap(1, &samples, 1, 4, 3, &mut llrs), 0);
+            assert_eq!(llrs.to_vec(), zero_at(0, other));
+        }
+        assert_eq!(demap(1, &[-128; 64], 255, 1, 5, &mut llrs), 0);
+        assert_eq!(llrs, [0; 64]);
     }
 
     #[test]

@@ -27,8 +27,9 @@ pub extern "C" fn zithejo_encode(
     polar::encode(n, map, coefs, message, codeword)
 }
 
-// Weighs samples into penalties, as `demapper::demap`. Returns 0, with the penalties in the buffer lent for them; or
-// the lowest refusal of 2, 3, 10 and 11 that fits, and leaves the buffer as it came.
+// Weighs samples into penalties, as `demapper::demap`; a sample of -128 is a lost one and adds nothing. Returns 0, with
+// the penalties in the buffer lent for them; or the lowest refusal of 2, 3, 10 and 11 that fits, and leaves the buffer
+// as it came.
 #[no_mangle]
 pub extern "C" fn zithejo_demap(
     base: u64,

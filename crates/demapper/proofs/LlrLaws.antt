@@ -33,8 +33,8 @@ module _ (chips : List ℕ) (samples : List ℤ) (k : ℕ) (sums next : List ℕ
       ap₂ (λ (x y : ℕ). x + y) (ap (λ (v : List ℕ). getD v s 0) e ∙ getD-tabulate 0 64 (λ i. sumTo k (addedAt chips samples i)) s l) (ap₂ (added (getD chips (k + s) 0)) p q)
       ∙ sym (sum-more k (addedAt chips samples s)))
 
-  -- and none is above 128 × (k + 1)
-  pub raw-small : ((s : ℕ) → s < 64 → getD sums s 0 ≤ 128 * k) → size ≤ 128 → (s : ℕ) → s < 64 → getD next s 0 ≤ 128 * (k + 1)
+  -- and none is above 127 × (k + 1)
+  pub raw-small : ((s : ℕ) → s < 64 → getD sums s 0 ≤ 127 * k) → size ≤ 127 → (s : ℕ) → s < 64 → getD next s 0 ≤ 127 * (k + 1)
   unfolding withSample
   raw-small h few s l =
       let e = ap (λ (v : List ℕ). getD v s 0) made ∙ getD-tabulate 0 64 (λ i. getD sums i 0 + added (getD chips (k + i) 0) hard size) s l in
@@ -54,6 +54,12 @@ pub by-base : (base top bottom qc : ℕ) (samples : List ℤ) → llrsBy (chipsT
 unfolding llrs
 by-base base top bottom qc samples = ap (λ (v : List ℕ). quantisedLlrs top bottom qc (lessLeast v)) (raw-by-base base samples)
 
+-- a raw penalty of 0 less the least has a penalty of 0
+pub quantised-zero : (top bottom qc : ℕ) → quantised top bottom qc 0 ≡ 0
+unfolding quantised
+quantised-zero top bottom qc =
+    ap (λ (x : ℕ). min x (2 ^ qc - 1)) (ap (λ (x : ℕ). x / bottom) (zero-mul top) ∙ zero-div bottom) ∙ min-eq-left (omega arith)
+
 module _ (base top bottom qc : ℕ) (samples : List ℤ) where
   -- there are 64
   pub length-llrs : length (llrs base top bottom qc samples) ≡ 64
@@ -72,7 +78,6 @@ module _ (base top bottom qc : ℕ) (samples : List ℤ) where
 
   -- one is 0
   pub llr-zero : (s : ℕ) × (s < 64) × (getD (llrs base top bottom qc samples) s 0 ≡ 0)
-  unfolding quantised
   llr-zero =
       let p = less-least-zero (rawLlrs base samples) in
-      (p .0, p .1, llr-at (p .0) (p .1) ∙ ap (quantised top bottom qc) (p .2) ∙ ap (λ (x : ℕ). min x (2 ^ qc - 1)) (ap (λ (x : ℕ). x / bottom) (zero-mul top) ∙ zero-div bottom) ∙ min-eq-left (omega arith))
+      (p .0, p .1, llr-at (p .0) (p .1) ∙ ap (quantised top bottom qc) (p .2) ∙ quantised-zero top bottom qc)

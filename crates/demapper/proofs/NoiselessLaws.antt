@@ -3,7 +3,7 @@ use mathlib.Core.Path.{_≡_, refl, sym, ap, ap₂, _∙_, subst}
 use mathlib.Core.Bool.{Bool, true, false, cond}
 use mathlib.Core.List.{List}
 use Prim.Native.Nat.{ℕ, zero, suc, _+_, _*_, _/_, _%_, _-_, _^_, _≤_, _<_, min}
-use native.Mathlib.Nat.{mul-zero, mul-one, zero-mul, zero-div, one-mul, min-eq-left, min-le-left, le-div-iff-mul-le, sub-zero}
+use native.Mathlib.Nat.{mul-zero, mul-one, zero-mul, one-mul, min-le-left, le-div-iff-mul-le, sub-zero}
 use native.Mathlib.Decide.{ℕ-discrete}
 use native.Mathlib.Omega.{arith}
 use borrow.Author.Tests.{le-ltb}
@@ -20,19 +20,24 @@ use Rattle.ccsk.specs.Spread.{numbersOf}
 use Rattle.demapper.specs.Demap.{frameOf}
 use Rattle.demapper.specs.Noiseless.{sentSample, sentSymbol, numberSamples, sentSamples, sentLlr, Weighed, Premise, Apart, Clean}
 use Rattle.ccsk.proofs.ChipLaws.{symbol-chip-lt, turned-chip}
-use Rattle.demapper.proofs.LlrLaws.{llr-at}
+use Rattle.demapper.proofs.LlrLaws.{llr-at, quantised-zero}
 use Rattle.ccsk.proofs.DistanceLaws.{shift, by-shift, differs-not}
 use Rattle.demapper.proofs.FrameLaws.{frame-part}
+use Rattle.demapper.proofs.LostLaws.{kept-magnitude}
 
--- a sample that is sent has its amplitude for its magnitude
-pub sent-magnitude : (a c : ℕ) → magnitude (sentSample a c) ≡ a
-unfolding magnitude sentSample
-sent-magnitude a c = go (eqb c 0) a
+-- a sample that is sent is its amplitude without its sign
+pub sent-size : (a c : ℕ) → natAbs (sentSample a c) ≡ a
+unfolding sentSample
+sent-size a c = go (eqb c 0) a
   where
     go : (b : Bool) (n : ℕ) → natAbs (cond b (pos n) (negℤ (pos n))) ≡ n
     go true n = refl
     go false zero = refl
     go false (suc n) = refl
+
+-- an amplitude of at most 127 is its magnitude; with 128 a sample at a chip 1 would count as lost
+sent-magnitude : (a c : ℕ) → a ≤ 127 → magnitude (sentSample a c) ≡ a
+sent-magnitude a c few = let e = sent-size a c in kept-magnitude (sentSample a c) (omega arith) ∙ e
 
 -- and its chip for its hard chip
 sent-hard : (a c : ℕ) → c < 2 → hardChip (sentSample (suc a) c) ≡ c
@@ -42,33 +47,33 @@ sent-hard a (suc zero) l = refl
 sent-hard a (suc (suc c)) l = absurd (omega arith)
 
 -- so it adds its amplitude to the raw penalty of a symbol with another chip there
-sent-adds : (a c d : ℕ) → c < 2 → added d (hardChip (sentSample a c)) (magnitude (sentSample a c)) ≡ a * cond (eqb c d) 0 1
+sent-adds : (a c d : ℕ) → a ≤ 127 → c < 2 → added d (hardChip (sentSample a c)) (magnitude (sentSample a c)) ≡ a * cond (eqb c d) 0 1
 unfolding added
-sent-adds zero c d l =
-    ap (λ (n : ℕ). cond (eqb (hardChip (sentSample 0 c)) d) 0 n) (sent-magnitude 0 c) ∙ go (eqb (hardChip (sentSample 0 c)) d) ∙ sym (zero-mul (cond (eqb c d) 0 1))
+sent-adds zero c d few l =
+    ap (λ (n : ℕ). cond (eqb (hardChip (sentSample 0 c)) d) 0 n) (sent-magnitude 0 c few) ∙ go (eqb (hardChip (sentSample 0 c)) d) ∙ sym (zero-mul (cond (eqb c d) 0 1))
   where
     go : (b : Bool) → _≡_ {A = ℕ} (cond b 0 0) 0
     go true = refl
     go false = refl
-sent-adds (suc a) c d l = ap₂ (λ (h n : ℕ). cond (eqb h d) 0 n) (sent-hard a c l) (sent-magnitude (suc a) c) ∙ go (eqb c d)
+sent-adds (suc a) c d few l = ap₂ (λ (h n : ℕ). cond (eqb h d) 0 n) (sent-hard a c l) (sent-magnitude (suc a) c few) ∙ go (eqb c d)
   where
     go : (b : Bool) → cond b 0 (suc a) ≡ suc a * cond b 0 1
     go true = sym (mul-zero (suc a))
     go false = sym (mul-one (suc a))
 
-module _ (base a s : ℕ) where
-  -- 64 samples are sent for a symbol
-  pub length-sent : length (sentSymbol base a s) ≡ 64
-  unfolding sentSymbol
-  length-sent = length-tabulate 64 _
+-- 64 samples are sent for a symbol
+pub length-sent : (base a s : ℕ) → length (sentSymbol base a s) ≡ 64
+unfolding sentSymbol
+length-sent base a s = length-tabulate 64 _
 
+module _ (base a s : ℕ) (few : a ≤ 127) where
   -- the raw penalty of v is the amplitude times the number of differing chips
   raw-sent : (v : ℕ) → raw base (sentSymbol base a s) v ≡ a * differing base s v
   unfolding raw sentSymbol differing
   raw-sent v =
       sum-ext 64 _ (λ k. a * cond (eqb (symbolChip base s k) (symbolChip base v k)) 0 1)
       (λ k l. ap (λ (y : ℤ). added (symbolChip base v k) (hardChip y) (magnitude y)) (getD-tabulate (pos 0) 64 (λ i. sentSample a (symbolChip base s i)) k l)
-      ∙ sent-adds a (symbolChip base s k) (symbolChip base v k) (symbol-chip-lt base s k))
+      ∙ sent-adds a (symbolChip base s k) (symbolChip base v k) few (symbol-chip-lt base s k))
       ∙ sum-scale a 64 (λ k. cond (eqb (symbolChip base s k) (symbolChip base v k)) 0 1)
 
   -- as an entry of the 64
@@ -92,12 +97,13 @@ module _ (base a s : ℕ) where
           llr-at base top bottom qc (sentSymbol base a s) v l
           ∙ ap (quantised top bottom qc) (less-least-at (rawLlrs base (sentSymbol base a s)) v l ∙ ap₂ (λ (x y : ℕ). x - y) (raw-sent-at v l) least-sent ∙ sub-zero (a * differing base s v))
 
-      -- what is weighed without noise, for every amplitude, and so for 1 to 127
+      -- what is weighed without noise, for every amplitude up to 127
       pub weighed : Weighed base a top bottom qc s
+      unfolding quantised
       weighed = record {
         sent = sent-llr s ls
-            ∙ ap (λ (x : ℕ). min x (2 ^ qc - 1)) (ap (λ (n : ℕ). a * n * top / bottom) (differs-not base s) ∙ ap (λ (n : ℕ). n * top / bottom) (mul-zero a) ∙ ap (λ (n : ℕ). n / bottom) (zero-mul top) ∙ zero-div bottom)
-            ∙ min-eq-left (omega arith);
+            ∙ ap (quantised top bottom qc) (ap (λ (n : ℕ). a * n) (differs-not base s) ∙ mul-zero a)
+            ∙ quantised-zero top bottom qc;
         other = sent-llr;
       }
 

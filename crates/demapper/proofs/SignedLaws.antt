@@ -1,32 +1,46 @@
--- A sample is a signed byte: what a test, a negation and a cast of it say of the number itself.
+-- A sample is a signed byte: what a test, a negation and a cast of it say of the number itself, and of its magnitude.
 use mathlib.Core.Path.{_≡_, refl, sym, ap, _∙_, subst}
-use mathlib.Core.Bool.{Bool, true, false}
-use Prim.Native.Nat.{ℕ, suc, _≤_}
+use mathlib.Core.Bool.{Bool, true, false, cond, _&&_}
+use Prim.Native.Nat.{ℕ, suc, _%_, _≤_}
 use native.Mathlib.Nat.{zero-add}
+use native.Mathlib.Decide.{ℕ-discrete}
 use native.Mathlib.Omega.{arith}
-use borrow.Author.Tests.{ltb-true}
-use lib.Dec.{T}
+use borrow.Author.Tests.{ltb-true, eq-eqb, ne-eqb}
+use lib.Dec.{T, eqb}
 use lib.IntN.{ℤ, pos, negsuc, natAbs, _-ℤ_}
 use lib.Signed.{nonNeg, ltZ}
 use mir.Syntax.{w8, w16}
 use mir.Val.{toZ, ofZ, Fits, SFits}
 use mir.ValLaws.{toZ-ofZ}
-use Rattle.demapper.specs.Samples.{magnitude}
+use Rattle.demapper.specs.Samples.{isLost, magnitude}
 
--- a number below 0 is what its magnitude, taken off 0, gives
+-- a number below 0 is what it gives without its sign, taken off 0
 below-zero : (y : ℤ) → ltZ y (pos 0) ≡ true → pos 0 -ℤ y ≡ pos (natAbs y)
 below-zero (pos n) e = absurd (let l = ltb-true n 0 e in omega arith)
 below-zero (negsuc n) e = ap pos (zero-add (suc n))
 
--- and any other number is its magnitude
+-- and any other number has no sign
 not-below : (y : ℤ) → ltZ y (pos 0) ≡ false → y ≡ pos (natAbs y)
 not-below (pos n) e = refl
 not-below (negsuc n) e = absurd (let z : _≡_ {A = ℕ} 0 1 = cc in omega arith)
 
--- a signed byte's magnitude is at most 128
+-- without its sign a signed byte is at most 128
 at-most : (y : ℤ) → SFits w8 y → natAbs y ≤ 128
 at-most (pos n) f = let l = f .sfits in omega arith
 at-most (negsuc n) f = let l = f .sfits in omega arith
+
+-- and one that is not below 0 at most 127
+at-most-kept : (y : ℤ) → SFits w8 y → ltZ y (pos 0) ≡ false → natAbs y ≤ 127
+at-most-kept (pos n) f e = let l = f .sfits in omega arith
+at-most-kept (negsuc n) f e = absurd (let z : _≡_ {A = ℕ} 0 1 = cc in omega arith)
+
+-- the remainder on division by 128 is 0 for 128, and the number itself below
+remainder : (n : ℕ) → n ≤ 128 → n % 128 ≡ cond (eqb n 128) 0 n
+remainder n l = go (ℕ-discrete n 128)
+  where
+    go : Dec (n ≡ 128) → n % 128 ≡ cond (eqb n 128) 0 n
+    go (yes e) = ap (λ (m : ℕ). m % 128) e ∙ sym (ap (λ (b : Bool). cond b 0 n) (eq-eqb n 128 e))
+    go (no h) = let e : n % 128 ≡ n = omega arith in e ∙ sym (ap (λ (b : Bool). cond b 0 n) (ne-eqb n 128 h))
 
 -- a number from 0 to 128, read back from 16 bits and cast to them
 module _ (z : ℤ) (n : ℕ) (e : z ≡ pos n) (l : n ≤ 128) where
@@ -43,8 +57,8 @@ module _ (z : ℤ) (n : ℕ) (e : z ≡ pos n) (l : n ≤ 128) where
   result-cast = subst (λ (x : ℤ). T (nonNeg x) × Fits w16 (natAbs x)) (sym back) (tt, record { fits = omega arith })
 
   -- and what is cast is the number
-  pub result-is : (natAbs (toZ w16 (ofZ w16 z)) ≡ n) × (natAbs (toZ w16 (ofZ w16 z)) ≤ 128)
-  result-is = (ap natAbs back, subst (λ (x : ℤ). natAbs x ≤ 128) (sym back) l)
+  pub result-is : natAbs (toZ w16 (ofZ w16 z)) ≡ n
+  result-is = ap natAbs back
 
 module _ (y : ℤ) (small : SFits w8 y) where
   -- read back from its bits it is the same
@@ -63,17 +77,41 @@ module _ (y : ℤ) (small : SFits w8 y) where
   wide : toZ w16 (ofZ w16 (toZ w8 (ofZ w8 y))) ≡ y
   wide = toZ-ofZ w16 (toZ w8 (ofZ w8 y)) widened ∙ plain
 
-  -- its magnitude is at most 128
-  pub small-size : magnitude y ≤ 128
-  unfolding magnitude
+  -- without its sign it is at most 128
+  pub small-size : natAbs y ≤ 128
   small-size = at-most y small
 
-  -- where the test finds it below 0, its magnitude is what it gives taken off 0
-  pub negated : ltZ (toZ w16 (ofZ w16 (toZ w8 (ofZ w8 y)))) (pos 0) ≡ true → pos 0 -ℤ toZ w16 (ofZ w16 (toZ w8 (ofZ w8 y))) ≡ pos (magnitude y)
-  unfolding magnitude
-  negated e = ap (λ (z : ℤ). pos 0 -ℤ z) wide ∙ below-zero y (ap (λ (z : ℤ). ltZ z (pos 0)) (sym wide) ∙ e)
+  -- where the test finds it below 0
+  module _ (test : ltZ (toZ w16 (ofZ w16 (toZ w8 (ofZ w8 y)))) (pos 0) ≡ true) where
+    -- it is below 0
+    below : ltZ y (pos 0) ≡ true
+    below = ap (λ (z : ℤ). ltZ z (pos 0)) (sym wide) ∙ test
 
-  -- where it does not, it is its magnitude
-  pub kept : ltZ (toZ w16 (ofZ w16 (toZ w8 (ofZ w8 y)))) (pos 0) ≡ false → toZ w8 (ofZ w8 y) ≡ pos (magnitude y)
-  unfolding magnitude
-  kept e = plain ∙ not-below y (ap (λ (z : ℤ). ltZ z (pos 0)) (sym wide) ∙ e)
+    -- it gives itself without its sign, taken off 0
+    pub negated : pos 0 -ℤ toZ w16 (ofZ w16 (toZ w8 (ofZ w8 y))) ≡ pos (natAbs y)
+    negated = ap (λ (z : ℤ). pos 0 -ℤ z) wide ∙ below-zero y below
+
+    -- the magnitude is the remainder of that
+    pub negated-size : natAbs y % 128 ≡ magnitude y
+    unfolding magnitude isLost
+    negated-size =
+        remainder (natAbs y) small-size
+        ∙ sym (ap (λ (b : Bool). cond (b && eqb (natAbs y) 128) 0 (natAbs y)) below)
+
+  -- where it does not
+  module _ (test : ltZ (toZ w16 (ofZ w16 (toZ w8 (ofZ w8 y)))) (pos 0) ≡ false) where
+    -- it is not below 0
+    not-negative : ltZ y (pos 0) ≡ false
+    not-negative = ap (λ (z : ℤ). ltZ z (pos 0)) (sym wide) ∙ test
+
+    -- it is the same without its sign
+    pub kept : toZ w8 (ofZ w8 y) ≡ pos (natAbs y)
+    kept = plain ∙ not-below y not-negative
+
+    -- the magnitude is just that
+    pub kept-size : (natAbs y ≡ magnitude y) × (natAbs y ≤ 127)
+    unfolding magnitude isLost
+    kept-size = (
+      sym (ap (λ (b : Bool). cond (b && eqb (natAbs y) 128) 0 (natAbs y)) not-negative),
+      at-most-kept y small not-negative,
+    )

@@ -1,4 +1,5 @@
 pub mod Samples
 pub mod Demap
+pub mod Lost
 pub mod Noiseless
 pub mod Parts

@@ -27,11 +27,11 @@ rawTo chips samples k = tabulate 64 (λ s. sumTo k (addedAt chips samples s))
 unfoldable pub withSample : List ℕ → List ℕ → (k hard size : ℕ) → List ℕ
 withSample sums chips k hard size = tabulate 64 (λ s. getD sums s 0 + added (getD chips (k + s) 0) hard size)
 
--- what is given for one sample: sums of k magnitudes of at most 128 each, and such a magnitude
+-- what is given for one sample: sums of k magnitudes of at most 127 each, and such a magnitude
 pub record OneSample (sums : List ℕ) (k size : ℕ) : Type 0 where
   pub few : k < 64
-  pub small : size ≤ 128
-  pub sums-small : (s : ℕ) → s < 64 → getD sums s 0 ≤ 128 * k
+  pub small : size ≤ 127
+  pub sums-small : (s : ℕ) → s < 64 → getD sums s 0 ≤ 127 * k
 
 -- a gain and a precision that are accepted
 pub record Scale (top bottom qc : ℕ) : Type 0 where

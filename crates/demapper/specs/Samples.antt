@@ -1,10 +1,10 @@
 -- From 64 samples to the 64 penalties of a symbol (document 01: weighing). Samples are signed bytes; a penalty is an
 -- llr here.
 use Prim.Native.Nat.{ℕ, _*_, _/_, _-_, _^_, min}
-use mathlib.Core.Bool.{cond}
+use mathlib.Core.Bool.{Bool, cond, _&&_}
 use mathlib.Core.List.{List}
 use lib.Dec.{eqb}
-use lib.IntN.{ℤ, pos, natAbs}
+use lib.IntN.{ℤ, pos, negℤ, natAbs}
 use lib.ListN.{getD}
 use lib.Signed.{ltZ}
 use Rattle.vector.specs.Vector.{tabulate, sumTo, lessLeast}
@@ -14,9 +14,17 @@ use Rattle.ccsk.specs.Chips.{symbolChip}
 unfoldable pub hardChip : ℤ → ℕ
 hardChip sample = cond (ltZ sample (pos 0)) 1 0
 
--- the magnitude of a sample; that of −128 is 128
+-- what the receiver's board writes for a chip that it lost: −128 (document 02, request 02)
+abbrev pub lost : ℤ
+lost = negℤ (pos 128)
+
+-- whether a sample is −128: below 0, and 128 without its sign
+unfoldable pub isLost : ℤ → Bool
+isLost sample = ltZ sample (pos 0) && eqb (natAbs sample) 128
+
+-- the magnitude of a sample; that of −128 is 0
 unfoldable pub magnitude : ℤ → ℕ
-magnitude sample = natAbs sample
+magnitude sample = cond (isLost sample) 0 (natAbs sample)
 
 -- what a sample with this hard chip and this magnitude adds to the raw penalty of a symbol with this chip there: its
 -- magnitude where the two chips differ

@@ -38,8 +38,9 @@ fn write_llrs(base: u64, samples: &[i8], top: u32, bottom: u32, qc: u32, llrs: &
 
 // Weighs samples, 64 to a symbol: for each symbol the 64 penalties of its values. Each is the sum of the magnitudes of
 // the samples whose hard chip differs from the value's chip, less the least of the 64, times the gain top over bottom,
-// rounded down, capped at 2^Qc - 1. Returns 0 and the penalties in the buffer lent for them; or the lowest refusal of
-// 2, 3, 10 and 11 that fits, and the buffer as it came.
+// rounded down, capped at 2^Qc - 1. A sample of -128 is a lost one: its magnitude is 0, and it adds nothing for any
+// value. Returns 0 and the penalties in the buffer lent for them; or the lowest refusal of 2, 3, 10 and 11 that fits,
+// and the buffer as it came.
 pub fn demap(base: u64, samples: &[i8], top: u32, bottom: u32, qc: u32, llrs: &mut [u16]) -> u8
     ensures { λ r. ⌜ Demapped base top bottom qc (now (samples .entry)) (now (llrs .entry)) (now (llrs .exit)) r ⌝ }
 {

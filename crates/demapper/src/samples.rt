@@ -12,13 +12,15 @@ fn hard_chip(sample: i8) -> u16
     if sample < 0 { 1 } else { 0 }
 }
 
-// The magnitude of a sample; that of -128 is 128.
+// The magnitude of a sample; that of -128, a lost sample, is 0. The remainder changes no other: with a test for -128 in
+// its place a sample costs three instructions more.
 fn magnitude(sample: i8) -> u16
-    ensures { λ r. ⌜ (r ≡ magnitude sample) × (r ≤ 128) ⌝ }
+    ensures { λ r. ⌜ (r ≡ magnitude sample) × (r ≤ 127) ⌝ }
 {
     let wide = sample as i16;
     if wide < 0 {
-        (0 - wide) as u16
+        let size = (0 - wide) as u16;
+        size % 128
     } else {
         wide as u16
     }

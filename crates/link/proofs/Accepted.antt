@@ -8,7 +8,7 @@ use native.Mathlib.Nat.{le-refl}
 use native.Mathlib.Decide.{ℕ-discrete}
 use native.Mathlib.Omega.{arith}
 use lib.Dec.{eqb}
-use lib.IntN.{ℤ, pos}
+use lib.IntN.{ℤ, pos, natAbs}
 use lib.ListN.{length, getD, take, length-map}
 use lib.Pow.{pow-mono, pow-pos}
 use Rattle.refusal.specs.Table.{Row, refusalOf, OneOf}
@@ -21,14 +21,13 @@ use Rattle.polar_code.specs.Code.{Code, codeOf}
 use Rattle.polar.specs.Encode.{codewordOf, encodeRefusal, encodeBuffer, Encodable, Encoded}
 use Rattle.polar.proofs.EncodeLaws as encode
 use Rattle.ccsk.specs.Chips.{chip, turned}
-use Rattle.demapper.specs.Samples.{magnitude}
 use Rattle.ccsk.specs.Spread.{numbersOf, spreadRefusal, spreadBuffer, Spreadable, Spread}
 use Rattle.demapper.specs.Demap.{frameOf, demapRefusal, demapBuffer, Demapped}
 use Rattle.demapper.specs.Noiseless.{sentSample, numberSamples}
 use Rattle.ccsk.proofs.SpreadLaws as spread
 use Rattle.demapper.proofs.DemapLaws as demap
 use Rattle.demapper.proofs.FrameLaws.{length-frame, frame-fits}
-use Rattle.demapper.proofs.NoiselessLaws.{sent-magnitude, samples-flat}
+use Rattle.demapper.proofs.NoiselessLaws.{sent-size, samples-flat}
 use Rattle.decoder_refusal.specs.Refusals.{Settings, Lent, sizeTable, contentTable, decodeRefusal}
 use Rattle.decoder_refusal.proofs.RefusalLaws.{small-frame, zeros-frame, size-refused, size-accepted}
 use Rattle.decoder_refusal.proofs.RefusalLaws as decode
@@ -80,13 +79,13 @@ codeword-accepted code message before codeword base numbers e h l =
 length-samples : (amplitude : ℕ) (numbers : List ℕ) → length (numberSamples amplitude numbers) ≡ 64 * length numbers
 length-samples amplitude numbers = ap length (samples-flat amplitude numbers) ∙ length-tabulate (64 * length numbers) _
 
--- each has the amplitude for its magnitude
-sample-size : (amplitude : ℕ) (numbers : List ℕ) (j : ℕ) → j < length (numberSamples amplitude numbers) → magnitude (getD (numberSamples amplitude numbers) j (pos 0)) ≡ amplitude
+-- each is the amplitude without its sign
+pub sample-size : (amplitude : ℕ) (numbers : List ℕ) (j : ℕ) → j < length (numberSamples amplitude numbers) → natAbs (getD (numberSamples amplitude numbers) j (pos 0)) ≡ amplitude
 sample-size amplitude numbers j l =
     let e = length-samples amplitude numbers in
-    ap (λ (ys : List ℤ). magnitude (getD ys j (pos 0))) (samples-flat amplitude numbers)
-    ∙ ap magnitude (getD-tabulate (pos 0) (64 * length numbers) (λ i. sentSample amplitude (chip (getD numbers (i / 64) 0) (i % 64))) j (omega arith))
-    ∙ sent-magnitude amplitude (chip (getD numbers (j / 64) 0) (j % 64))
+    ap (λ (ys : List ℤ). natAbs (getD ys j (pos 0))) (samples-flat amplitude numbers)
+    ∙ ap natAbs (getD-tabulate (pos 0) (64 * length numbers) (λ i. sentSample amplitude (chip (getD numbers (i / 64) 0) (i % 64))) j (omega arith))
+    ∙ sent-size amplitude (chip (getD numbers (j / 64) 0) (j % 64))
 
 module _ (base : ℕ) (codeword before numbers : List ℕ) (s : Spread base codeword before numbers 0) where
   -- the codeword was accepted

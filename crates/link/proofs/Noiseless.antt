@@ -5,7 +5,7 @@ use mathlib.Core.List.{List}
 use Prim.Native.Nat.{ℕ, _*_, _^_, _≤_, _<_}
 use native.Mathlib.Nat.{mul-le-mul-left, mul-le-mul-right, mul-comm, le-trans}
 use native.Mathlib.Omega.{arith}
-use lib.IntN.{ℤ}
+use lib.IntN.{ℤ, pos}
 use lib.ListN.{getD}
 use lib.Pow.{pow-mono, pow-pos}
 use Rattle.vector.specs.Vector.{vectorAt, OnlyZero}
@@ -15,16 +15,19 @@ use Rattle.polar.specs.Message.{messageOf}
 use Rattle.polar.proofs.MessageLaws.{word-frozen, message-back}
 use Rattle.polar.proofs.EncodeLaws.{before-word, codeword-word}
 use Rattle.ccsk.specs.Chips.{differing}
+use Rattle.ccsk.specs.Spread.{numbersOf}
 use Rattle.demapper.specs.Samples.{llrs}
 use Rattle.demapper.specs.Demap.{frameOf}
 use Rattle.demapper.specs.Noiseless.{sentSymbol, sentLlr, Premise, Apart}
 use Rattle.demapper.proofs.NoiselessLaws.{numbers-sent, sent-vector, premise-apart, apart-premise, clean}
+use Rattle.demapper.proofs.LostLaws.{not-lost}
 use Rattle.ccsk.proofs.DistanceLaws.{two-differ}
 use Rattle.scms.specs.Mode.{capOf, modeOf}
 use Rattle.scms.specs.Totals.{InCode}
 use Rattle.scms.specs.Claims.{Sent}
 use Rattle.scms.proofs.Noiseless.{noiseless}
-use Rattle.link.specs.Noiseless.{Transmission, Reception, ChainInput, messageSamples, messageFrame, NoiselessPremise, GivenBack, NoiselessStatement, PremiseConditions, Corollary}
+use Rattle.link.proofs.Accepted.{sample-size}
+use Rattle.link.specs.Noiseless.{Transmission, Reception, ChainInput, messageSamples, messageFrame, NoiselessPremise, GivenBack, NoiselessStatement, NeverLost, PremiseConditions, Corollary}
 
 module _ (s : Transmission) (r : Reception) (h : ChainInput s r) where
   -- the code
@@ -42,6 +45,10 @@ module _ (s : Transmission) (r : Reception) (h : ChainInput s r) where
   -- the amplitude
   abbrev amplitude : ℕ
   amplitude = s .amplitude
+
+  -- it is at most 127, so no sample that is sent counts as lost
+  few : amplitude ≤ 127
+  few = h .sendable .amplitude-fits .most
 
   -- the gain: its top
   abbrev top : ℕ
@@ -104,7 +111,7 @@ module _ (s : Transmission) (r : Reception) (h : ChainInput s r) where
   sent : NoiselessPremise s r → Sent (code .n) frame x
   sent p i l =
       subst (λ (w : List ℕ). OnlyZero w (getD x i 0)) (sym (demapped-place i l))
-      (clean base amplitude (getD x i 0) (codeword .symbols i l) top bottom qc (h .gain-bottom .least) (h .channel-precision .least) (premise-at p i l))
+      (clean base amplitude (getD x i 0) few (codeword .symbols i l) top bottom qc (h .gain-bottom .least) (h .channel-precision .least) (premise-at p i l))
 
   -- so the word is given back, and the message with it
   given-back : NoiselessPremise s r → GivenBack s r
@@ -120,7 +127,7 @@ module _ (s : Transmission) (r : Reception) (h : ChainInput s r) where
   apart-holds : Apart base amplitude top bottom → NoiselessPremise s r
   apart-holds p i v l lv d =
       subst (λ (y : ℕ). 1 ≤ y) (sym (at-place i v l))
-      (apart-premise base amplitude (getD x i 0) (codeword .symbols i l) top bottom qc (h .gain-bottom .least) (h .channel-precision .least) p v lv d)
+      (apart-premise base amplitude (getD x i 0) few (codeword .symbols i l) top bottom qc (h .gain-bottom .least) (h .channel-precision .least) p v lv d)
 
   -- when the premise holds: a word has a place 0, and every shift differs from shift 0 in at least two chips
   when-held : PremiseConditions s r
@@ -128,12 +135,20 @@ module _ (s : Transmission) (r : Reception) (h : ChainInput s r) where
     apart-holds = apart-holds;
     holds-apart = λ p.
         let first = pow-pos (code .n) in
-        premise-apart base amplitude (getD x 0 0) (codeword .symbols 0 first) top bottom qc (h .gain-bottom .least) (h .channel-precision .least) (premise-at p 0 first);
+        premise-apart base amplitude (getD x 0 0) few (codeword .symbols 0 first) top bottom qc (h .gain-bottom .least) (h .channel-precision .least) (premise-at p 0 first);
     any-base = λ fits l. apart-holds (λ d w.
         let two = two-differ base fits (h .sendable .base-turns) d w in
         let more = mul-le-mul-right top (mul-le-mul-left amplitude two) in
         le-trans l (subst (λ (y : ℕ). y * top ≤ amplitude * differing base 0 d * top) (mul-comm amplitude 2) more));
   }
+
+-- the samples of a message never reach −128
+pub never-lost : (s : Transmission) → NeverLost s
+unfolding messageSamples
+never-lost s w j l =
+    let e = sample-size (s .amplitude) (numbersOf (s .base) (codewordOf (s .code) (s .message))) j l in
+    let few = w .most in
+    not-lost (getD (messageSamples s) j (pos 0)) (omega arith)
 
 -- the noiseless statement
 pub noiseless-statement : (s : Transmission) (r : Reception) → NoiselessStatement s r

@@ -18,7 +18,7 @@ use Rattle.polar.specs.Encode.{symbolAt, restAfter, wordBefore, codewordOf}
 use Rattle.polar.specs.Message.{withPlace, messageOf}
 use Rattle.ccsk.specs.Chips.{chip, symbolChip, turned, differing}
 use Rattle.ccsk.specs.Spread.{numbersOf, spreadRefusal}
-use Rattle.demapper.specs.Samples.{hardChip, magnitude, added, raw, rawLlrs, quantised, quantisedLlrs, llrs}
+use Rattle.demapper.specs.Samples.{hardChip, isLost, magnitude, added, raw, rawLlrs, quantised, quantisedLlrs, llrs}
 use Rattle.demapper.specs.Demap.{frameOf, demapRefusal}
 use Rattle.demapper.specs.Noiseless.{sentSample, sentSymbol, numberSamples}
 use Rattle.scms.specs.Nodes.{ordered, checkFrom, checkNode, sumsFrom, sums, lessFrom, subtractLeast, clipped, exceeding, lowered, variableNode, clippedEntries}
@@ -70,5 +70,5 @@ zero-eight rest frozen cs = row-passed 12 _ (five (firstLine 48 56) rest refl) �
 
 -- every row holds
 pub worked : Worked
-unfolding _⊕_ _⊙_ timesA productBits lowSix theta phi coefficient atKernel atKernels atLayer layer layers transform refusalOf outside anyOutside unequal tabulate joined sumTo leastTo least lessLeast chip symbolChip turned spreadRefusal hardChip magnitude added raw rawLlrs quantised quantisedLlrs llrs vectorAt frameOf demapRefusal sentSample sentSymbol kindOf ordered checkFrom checkNode sumsFrom sums lessFrom subtractLeast clipped exceeding lowered variableNode clippedEntries smallestTo smallest decision capOf nodes thetaSymbol vectors thetaVector phiVector loweredAt clippedAt clipCount heldAt decidedTo held symbols report count symbolAt restAfter wordBefore codewordOf numbersOf withPlace messageOf numberSamples messageSamples messageFrame sheetRefusal sheetMap sheetCoefs badLine numberOn numbersOn part isLine same line fields field before column digit numbers spelled spelledFrom anyTo messageCount messagePlaces placeLine numberLine heldFor otherValue leastOther noZero lines sheetOf sheetWriteRefusal sheetBuffer lineWriteRefusal lineBuffer
+unfolding _⊕_ _⊙_ timesA productBits lowSix theta phi coefficient atKernel atKernels atLayer layer layers transform refusalOf outside anyOutside unequal tabulate joined sumTo leastTo least lessLeast chip symbolChip turned spreadRefusal hardChip isLost magnitude added raw rawLlrs quantised quantisedLlrs llrs vectorAt frameOf demapRefusal sentSample sentSymbol kindOf ordered checkFrom checkNode sumsFrom sums lessFrom subtractLeast clipped exceeding lowered variableNode clippedEntries smallestTo smallest decision capOf nodes thetaSymbol vectors thetaVector phiVector loweredAt clippedAt clipCount heldAt decidedTo held symbols report count symbolAt restAfter wordBefore codewordOf numbersOf withPlace messageOf numberSamples messageSamples messageFrame sheetRefusal sheetMap sheetCoefs badLine numberOn numbersOn part isLine same line fields field before column digit numbers spelled spelledFrom anyTo messageCount messagePlaces placeLine numberLine heldFor otherValue leastOther noZero lines sheetOf sheetWriteRefusal sheetBuffer lineWriteRefusal lineBuffer
 worked = record { rows-hold = refl; samples-sent = refl; premise-fails = fails; premise-holds = holds; nine-gives-1 = nine; zero-eight-gives-12 = zero-eight }

@@ -4,7 +4,7 @@
 use Prim.Native.Nat.{ℕ, _*_, _/_, _^_, _≤_, _<_}
 use mathlib.Core.Path.{_≡_}
 use mathlib.Core.List.{List, [], _∷_}
-use lib.IntN.{ℤ, pos}
+use lib.IntN.{ℤ, pos, natAbs}
 use lib.ListN.{length, getD, take}
 use Rattle.refusal.specs.Table.{OneOf}
 use Rattle.refusal.specs.Tests.{Within}
@@ -12,7 +12,6 @@ use Rattle.polar_code.specs.Code.{Code, codeOf, IsCode}
 use Rattle.polar.specs.Encode.{Encoded}
 use Rattle.ccsk.specs.Chips.{turned}
 use Rattle.ccsk.specs.Spread.{spreadRefusal, Spread}
-use Rattle.demapper.specs.Samples.{magnitude}
 use Rattle.demapper.specs.Demap.{demapRefusal, Demapped}
 use Rattle.demapper.specs.Noiseless.{numberSamples}
 use Rattle.sheet.specs.CodeSheet.{SheetRead}
@@ -35,12 +34,12 @@ CodewordAccepted code message before codeword base numbers =
     Encoded code message before codeword 0 → (turned base 32 ≡ base → ⊥) → length numbers ≡ length codeword
     → spreadRefusal base codeword numbers ≡ 0
 
--- the samples sent for the numbers that `spread` answered: with an amplitude from 1 to 127 each is a signed byte, and
--- `demap` accepts them, for a gain and a Qc in range and a buffer of as many penalties
+-- the samples sent for the numbers that `spread` answered: with an amplitude from 1 to 127 each is a signed byte from
+-- −127 to 127, and `demap` accepts them, for a gain and a Qc in range and a buffer of as many penalties
 pub record SamplesAccepted (base : ℕ) (codeword before numbers : List ℕ) (amplitude top bottom qc : ℕ) (frame : List ℕ)
     : Type 0 where
   pub signed-bytes : Within 1 127 amplitude → (j : ℕ) → j < length (numberSamples amplitude numbers)
-      → magnitude (getD (numberSamples amplitude numbers) j (pos 0)) ≤ 127
+      → natAbs (getD (numberSamples amplitude numbers) j (pos 0)) ≤ 127
   pub accepted : Spread base codeword before numbers 0 → Within 1 255 top → Within 1 255 bottom → Within 1 5 qc
       → length frame ≡ 64 * length numbers → demapRefusal base top bottom qc (numberSamples amplitude numbers) frame ≡ 0
 

@@ -4,7 +4,7 @@
 use Prim.Native.Nat.{ℕ, _*_, _^_, _≤_, _<_}
 use mathlib.Core.Path.{_≡_}
 use mathlib.Core.List.{List}
-use lib.IntN.{ℤ}
+use lib.IntN.{ℤ, pos}
 use lib.ListN.{length, getD}
 use Rattle.refusal.specs.Tests.{Within}
 use Rattle.vector.specs.Vector.{vectorAt}
@@ -13,6 +13,7 @@ use Rattle.polar.specs.Encode.{wordBefore, codewordOf}
 use Rattle.polar.specs.Message.{messageOf}
 use Rattle.ccsk.specs.Chips.{turned}
 use Rattle.ccsk.specs.Spread.{numbersOf}
+use Rattle.demapper.specs.Samples.{lost}
 use Rattle.demapper.specs.Demap.{frameOf}
 use Rattle.demapper.specs.Noiseless.{numberSamples, Apart}
 use Rattle.scms.specs.Mode.{modeOf}
@@ -61,6 +62,11 @@ pub record ChainInput (s : Transmission) (r : Reception) : Type 0 where
 -- each chip 1
 unfoldable pub messageSamples : Transmission → List ℤ
 messageSamples s = numberSamples (s .amplitude) (numbersOf (s .base) (codewordOf (s .code) (s .message)))
+
+-- with an amplitude from 1 to 127 none of them is −128, which would count as lost
+abbrev pub NeverLost : Transmission → Type 0
+NeverLost s =
+    Within 1 127 (s .amplitude) → (j : ℕ) → j < length (messageSamples s) → getD (messageSamples s) j (pos 0) ≡ lost → ⊥
 
 module _ (s : Transmission) (r : Reception) where
   -- the frame of penalties weighed from them

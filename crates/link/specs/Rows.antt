@@ -14,6 +14,7 @@ use Rattle.polar.specs.Encode.{codewordOf}
 use Rattle.polar.specs.Message.{messageOf}
 use Rattle.ccsk.specs.Chips.{symbolChip, turned}
 use Rattle.ccsk.specs.Spread.{spreadRefusal}
+use Rattle.demapper.specs.Samples.{lost}
 use Rattle.demapper.specs.Demap.{frameOf, demapRefusal}
 use Rattle.demapper.specs.Noiseless.{sentSymbol}
 use Rattle.scms.specs.Mode.{Mode, modeOf}
@@ -67,6 +68,13 @@ gainRows =
     record { given = frameOf 1 1 4 3 workedSamples; expected = 0 ∷ replicate 63 5 }
     ∷ record { given = frameOf 1 1 40 3 workedSamples; expected = replicate 64 0 }
     ∷ record { given = frameOf 1 1 20 3 workedSamples; expected = 0 ∷ replicate 63 1 }
+    ∷ []
+
+-- the same samples with chip 0 lost: gain 1/4 gives 0 for symbol 0 and 2 for all others; all 64 samples lost: 0 for all
+abbrev pub lostRows : List Row
+lostRows =
+    record { given = frameOf 1 1 4 3 (lost ∷ replicate 63 (pos 10)); expected = 0 ∷ replicate 63 2 }
+    ∷ record { given = frameOf 1 1 4 3 (replicate 64 lost); expected = replicate 64 0 }
     ∷ []
 
 -- a vector that is 0 at s and has this penalty at every other value
@@ -190,8 +198,8 @@ listingRows =
 -- all rows
 abbrev pub rows : List Row
 rows =
-    productRows ++ (transformRows ++ (baseRows ++ (gainRows ++ (decoderRows (modeOf 1)
-    ++ (decoderRows (modeOf 13) ++ (sheetRows ++ (linkRows ++ (lineRows ++ (writtenRows ++ listingRows)))))))))
+    productRows ++ (transformRows ++ (baseRows ++ (gainRows ++ (lostRows ++ (decoderRows (modeOf 1)
+    ++ (decoderRows (modeOf 13) ++ (sheetRows ++ (linkRows ++ (lineRows ++ (writtenRows ++ listingRows))))))))))
 
 -- a code and a message sent with base 1 and amplitude 10
 abbrev pub sentBy : Code → (message : List ℕ) → Transmission

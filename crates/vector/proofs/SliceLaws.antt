@@ -21,9 +21,13 @@ unfolding vectorAt
 vector-long xs i l = length-take-le 64 (drop (64 * i) xs) (simp length-drop (omega arith))
 
 -- its entry b is the slice's at 64 × i + b
-pub vector-entry : (xs : List ℕ) (i b : ℕ) → b < 64 → getD (vectorAt xs i) b 0 ≡ getD xs (64 * i + b) 0
+pub vector-entry-of : {A : Type 0} (d : A) (xs : List A) (i b : ℕ) → b < 64 → getD (vectorAt xs i) b d ≡ getD xs (64 * i + b) d
 unfolding vectorAt
-vector-entry xs i b l = getD-take 64 (drop (64 * i) xs) b 0 l ∙ getD-drop (64 * i) xs b 0
+vector-entry-of d xs i b l = getD-take 64 (drop (64 * i) xs) b d l ∙ getD-drop (64 * i) xs b d
+
+-- in a slice of numbers
+pub vector-entry : (xs : List ℕ) (i b : ℕ) → b < 64 → getD (vectorAt xs i) b 0 ≡ getD xs (64 * i + b) 0
+vector-entry = vector-entry-of 0
 
 -- it is the list of those entries
 pub vector-by : (xs : List ℕ) (i : ℕ) → 64 * (i + 1) ≤ length xs → vectorAt xs i ≡ tabulate 64 (λ b. getD xs (64 * i + b) 0)

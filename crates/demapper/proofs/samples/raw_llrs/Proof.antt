@@ -1,4 +1,4 @@
--- `raw_llrs` meets its contract: the sums are those of the first k samples, each at most 128 × k.
+-- `raw_llrs` meets its contract: the sums are those of the first k samples, each at most 127 × k.
 use mathlib.Core.Path.{_≡_, refl, ap, _∙_}
 use Prim.Native.Nat.{ℕ, _*_, _-_, _≤_, _<_}
 use native.Mathlib.Omega.{arith}
@@ -15,7 +15,7 @@ use Rattle.demapper.proofs.samples.raw_llrs.Statement.{statement}
 use Rattle.demapper.proofs.samples.raw_llrs.Tie as tie
 
 abbrev Inv-loop : tie.InvT-loop
-Inv-loop chips samples sums₀ k₀ sums k = (k ≤ 64) × (sums ≡ rawTo chips samples k) × ((s : ℕ) → s < 64 → getD sums s 0 ≤ 128 * k)
+Inv-loop chips samples sums₀ k₀ sums k = (k ≤ 64) × (sums ≡ rawTo chips samples k) × ((s : ℕ) → s < 64 → getD sums s 0 ≤ 127 * k)
 
 abbrev μ-loop : tie.MeasureT-loop
 μ-loop chips samples sums₀ k₀ sums k = 64 - k

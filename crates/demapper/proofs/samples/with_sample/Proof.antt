@@ -1,4 +1,4 @@
--- `with_sample` meets its contract: the sums before s are filled, and each fits, since it is at most 128 × (k + 1).
+-- `with_sample` meets its contract: the sums before s are filled, and each fits, since it is at most 127 × (k + 1).
 use mathlib.Core.Path.{refl, ap}
 use Prim.Native.Nat.{ℕ, _+_, _-_}
 use native.Mathlib.Omega.{arith}
