@@ -3,12 +3,12 @@ use mathlib.Core.Path.{_≡_, refl, sym, ap, ap₂, _∙_, subst}
 use mathlib.Core.Logic.{inl, inr}
 use mathlib.Core.Bool.{Bool, true, false, cond, _&&_}
 use mathlib.Core.List.{List, [], _∷_}
-use Prim.Native.Nat.{ℕ, _+_, _*_, _/_, _-_, _<_, _≤_}
+use Prim.Native.Nat.{ℕ, suc, _+_, _*_, _/_, _-_, _<_, _≤_}
 use native.Mathlib.Nat.{zero-sub}
 use native.Mathlib.Omega.{arith}
-use borrow.Author.Tests.{ne-eqb}
+use borrow.Author.Tests.{eqb-true, ne-eqb, le-ltb}
 use lib.Dec.{eqb}
-use lib.IntN.{ℤ, pos, natAbs}
+use lib.IntN.{ℤ, pos, negsuc, natAbs}
 use lib.ListN.{length, getD, replicate}
 use lib.Signed.{ltZ}
 use Rattle.vector.specs.Vector.{tabulate, sumTo, joined, vectorAt, lessLeast, least}
@@ -25,7 +25,20 @@ use Rattle.demapper.proofs.FrameLaws.{frame-part}
 
 -- ---- which samples are lost
 
--- a number that is not −128 without its sign has that for its magnitude
+-- −128 is found to be lost
+pub lost-found : isLost lost ≡ true
+unfolding isLost
+lost-found = refl
+
+-- and no other number
+pub found-lost : (y : ℤ) → isLost y ≡ true → y ≡ lost
+unfolding isLost
+found-lost (pos n) e =
+    let f : _≡_ {A = Bool} false true = sym (ap (λ (b : Bool). b && eqb n 128) (le-ltb n 0 (omega arith))) ∙ e in
+    absurd (let z : _≡_ {A = ℕ} 0 1 = cc in omega arith)
+found-lost (negsuc n) e = ap negsuc (let s = eqb-true (suc n) 128 e in let l : n ≡ 127 = omega arith in l)
+
+-- a number that is at most 127 without its sign has that for its magnitude
 pub kept-magnitude : (y : ℤ) → natAbs y ≤ 127 → magnitude y ≡ natAbs y
 unfolding magnitude isLost
 kept-magnitude y l = ap (λ (b : Bool). cond (ltZ y (pos 0) && b) 0 (natAbs y)) (ne-eqb (natAbs y) 128 (λ e. absurd (omega arith))) ∙ go (ltZ y (pos 0))
@@ -105,8 +118,8 @@ lost-as-zero one other h = record {
       let number = refusal-same one other h base top bottom qc buffer in (
         d .answer ∙ number ∙ sym (d₂ .answer),
         d .frame
-        ∙ ap₂ (λ (n : ℕ) (frame : List ℕ). cond (eqb n 0) frame buffer) number (frame-same one other h base top bottom qc)
-        ∙ sym (d₂ .frame),
+            ∙ ap₂ (λ (n : ℕ) (frame : List ℕ). cond (eqb n 0) frame buffer) number (frame-same one other h base top bottom qc)
+            ∙ sym (d₂ .frame),
       );
 }
 

@@ -33,8 +33,8 @@ sentSamples base amplitude symbols = joined (length symbols) (λ i. sentSymbol b
 unfoldable pub sentLlr : (base amplitude top bottom qc : ℕ) → (s v : ℕ) → ℕ
 sentLlr base amplitude top bottom qc s v = getD (llrs base top bottom qc (sentSymbol base amplitude s)) v 0
 
--- what is weighed without noise: 0 at the symbol sent, and at any other value the floor of (amplitude × number of
--- differing chips × top / bottom), capped
+-- what is weighed without noise, for an amplitude of at most 127: 0 at the symbol sent, and at any other value the
+-- floor of (amplitude × number of differing chips × top / bottom), capped
 pub record Weighed (base amplitude top bottom qc s : ℕ) : Type 0 where
   pub sent : sentLlr base amplitude top bottom qc s s ≡ 0
   pub other : (v : ℕ) → v < 64
