@@ -286,10 +286,6 @@ CHIP = [
      "chip_of_symbol(base, s, k) * 2 ** (63 - k)"),
     ("the sign of a chip", CHIPS, "    if sample < 0:\n        return 1\n",
      "    if sample > 0:\n        return 1\n"),
-    ("-128 has magnitude 127", CHIPS, "return -sample",
-     "return min(-sample, 127)"),
-    ("-128 has magnitude 0", CHIPS, "return -sample",
-     "return -sample % 128"),
     ("agreeing chips are weighed", CHIPS,
      "if hard_chip(sample) != chip_of_symbol",
      "if hard_chip(sample) == chip_of_symbol"),
@@ -375,6 +371,190 @@ CHIP = [
      "return penalties[64 * (place - 1):][:64]"),
     ("part: the last place is outside", CHIPS,
      "place >= len(penalties) // 64", "place >= len(penalties) // 64 - 1"),
+]
+
+
+# --- Lost samples ------------------------------------------------------------
+
+LOST_0 = "    if sample == -128:\n        return 0\n"
+DIFFERS = "        if hard_chip(sample) != chip_of_symbol(base, s, k):\n"
+TAKE_SAMPLE = "        sample = samples_of_symbol[k]\n"
+ALL_RAW = "        raw.append(raw_penalty(base, samples_of_symbol, s))\n"
+ONE_SYMBOL = "        samples_of_symbol = samples[64 * i:64 * i + 64]\n"
+REFUSAL = "    number = weigh_refusal("
+TRIED = "Qc, output_length)\n"
+IF_REFUSED = """    if number != 0:
+        return number, None
+"""
+WHOLE_2 = """    if len(samples) % 64 != 0:
+        return 2
+"""
+
+
+def magnitudes(name, condition, answer=0):
+    """A variant in which other samples have the magnitude of a lost one, or a
+    lost one has another."""
+    return (name, CHIPS, LOST_0,
+            "    if %s:\n        return %d\n" % (condition, answer))
+
+
+def counted(name, condition, magnitude):
+    """A variant in which a lost sample adds a magnitude under a condition."""
+    return (name, CHIPS, DIFFERS,
+            "        if sample == -128 and %s:\n"
+            "            total = total + %d\n" % (condition, magnitude)
+            + DIFFERS)
+
+
+def sample_lines(name, lines):
+    """A variant with more lines after each sample is taken."""
+    return (name, CHIPS, TAKE_SAMPLE, TAKE_SAMPLE + lines)
+
+
+def raw_lines(name, lines):
+    """A variant with more lines after the raw penalties of a symbol."""
+    return (name, CHIPS, ALL_RAW, ALL_RAW + lines)
+
+
+def symbol_lines(name, lines):
+    """A variant with more lines after the samples of a symbol are taken."""
+    return (name, CHIPS, ONE_SYMBOL, ONE_SYMBOL + lines)
+
+
+LOST = [
+    ("-128 has magnitude 128", CHIPS, LOST_0, ""),
+    magnitudes("-128 has magnitude 127", "sample == -128", 127),
+    magnitudes("-128 has magnitude 64", "sample == -128", 64),
+    magnitudes("-128 has magnitude 1", "sample == -128", 1),
+    magnitudes("-127 is lost too", "sample <= -127"),
+    magnitudes("-127 is lost and -128 is not", "sample == -127"),
+    magnitudes("127 is lost too", "sample in (-128, 127)"),
+    magnitudes("127 is lost and -128 is not", "sample == 127"),
+    magnitudes("127 and -127 are lost too", "not -127 < sample < 127"),
+    magnitudes("-1 is lost too", "sample in (-128, -1)"),
+    magnitudes("1 is lost too", "sample in (-128, 1)"),
+    magnitudes("each sample below 0 is lost", "sample < 0"),
+    ("a magnitude is the lower seven bits", CHIPS, "return -sample",
+     "return sample % 128"),
+    ("a magnitude below 0 is one less", CHIPS, "return -sample",
+     "return -sample - 1"),
+    counted("a lost sample counts 128 for chip 1",
+            "chip_of_symbol(base, s, k) == 1", 128),
+    counted("a lost sample counts 127 for chip 1",
+            "chip_of_symbol(base, s, k) == 1", 127),
+    counted("a lost sample counts 1 for chip 1",
+            "chip_of_symbol(base, s, k) == 1", 1),
+    counted("a lost sample counts 64 for chip 0",
+            "chip_of_symbol(base, s, k) == 0", 64),
+    counted("a lost sample counts 128 for chip 0 where base chip k is 0",
+            "chip(base, k) == 0 and chip_of_symbol(base, s, k) == 0", 128),
+    counted("a lost sample counts 128 for chip 0 where base chip k is 1",
+            "chip(base, k) == 1 and chip_of_symbol(base, s, k) == 0", 128),
+    counted("a lost first sample counts 128 for chip 0",
+            "k == 0 and chip_of_symbol(base, s, k) == 0", 128),
+    counted("a lost last sample counts 128 for chip 0",
+            "k == 63 and chip_of_symbol(base, s, k) == 0", 128),
+    counted("a lost sample counts 128 but for the first and the last",
+            "0 < k < 63 and chip_of_symbol(base, s, k) == 0", 128),
+    counted("a second lost sample of a symbol counts 128 for chip 0",
+            "-128 in samples_of_symbol[:k] and "
+            "chip_of_symbol(base, s, k) == 0", 128),
+    counted("the only lost sample of a symbol counts 128 for chip 0",
+            "samples_of_symbol.count(-128) == 1 and "
+            "chip_of_symbol(base, s, k) == 0", 128),
+    sample_lines("a lost sample is the one before it, or the last",
+                 "        if sample == -128:\n"
+                 "            sample = samples_of_symbol[k - 1]\n"),
+    sample_lines("a lost sample is the one before it, or 0",
+                 "        if sample == -128 and k > 0:\n"
+                 "            sample = samples_of_symbol[k - 1]\n"),
+    sample_lines("a lost sample is the last before it that is not lost",
+                 "        for before in samples_of_symbol[:k + 1]:\n"
+                 "            if before != -128:\n"
+                 "                sample = before\n"),
+    sample_lines("a lost sample is the one after it, or the first",
+                 "        if sample == -128:\n"
+                 "            sample = samples_of_symbol[(k + 1) % 64]\n"),
+    sample_lines("the sample after a lost one is lost",
+                 "        if -128 in samples_of_symbol[k - 1:k]:\n"
+                 "            sample = 0\n"),
+    sample_lines("the sample before a lost one is lost",
+                 "        if -128 in samples_of_symbol[k + 1:k + 2]:\n"
+                 "            sample = 0\n"),
+    sample_lines("the samples after a lost one are lost",
+                 "        if sample == -128:\n            break\n"),
+    sample_lines("the samples before a lost one are lost",
+                 "        if sample == -128:\n            total = 0\n"),
+    raw_lines("a lost sample makes the penalties of its symbol 0",
+              "    if -128 in samples_of_symbol:\n        raw = [0] * 64\n"),
+    raw_lines("two lost samples make the penalties of their symbol 0",
+              "    if samples_of_symbol.count(-128) > 1:\n"
+              "        raw = [0] * 64\n"),
+    raw_lines("32 lost samples make the penalties of their symbol 0",
+              "    if samples_of_symbol.count(-128) > 31:\n"
+              "        raw = [0] * 64\n"),
+    raw_lines("63 lost samples make the penalties of their symbol 0",
+              "    if samples_of_symbol.count(-128) > 62:\n"
+              "        raw = [0] * 64\n"),
+    raw_lines("lost samples scale up the others",
+              "    left = max(64 - samples_of_symbol.count(-128), 1)\n"
+              "    raw = [64 * total // left for total in raw]\n"),
+    raw_lines("lost samples scale up the gain",
+              "    top = 64 * top\n"
+              "    left = max(64 - samples_of_symbol.count(-128), 1)\n"
+              "    bottom = left * bottom\n"),
+    raw_lines("all lost: the penalties are at the cap",
+              "    if samples_of_symbol.count(-128) == 64:\n"
+              "        return [2 ** Qc - 1] * 64\n"),
+    raw_lines("all lost: symbol 0 is taken as sent",
+              "    if samples_of_symbol.count(-128) == 64:\n"
+              "        return [0] + [2 ** Qc - 1] * 63\n"),
+    raw_lines("all lost: the penalties are 1",
+              "    if samples_of_symbol.count(-128) == 64:\n"
+              "        return [1] * 64\n"),
+    ("the least is not subtracted where a sample was lost", CHIPS,
+     "    least = min(raw)\n",
+     "    least = 0 if -128 in samples_of_symbol else min(raw)\n"),
+    symbol_lines("lost samples are left out and the others move up",
+                 "        kept = [x for x in samples_of_symbol if x != -128]\n"
+                 "        samples_of_symbol = (kept + [0] * 64)[:64]\n"),
+    symbol_lines("a lost sample has the mean of the others, chip 1",
+                 "        kept = [x for x in samples_of_symbol if x != -128]\n"
+                 "        mean = sum(map(abs, kept)) // max(len(kept), 1)\n"
+                 "        samples_of_symbol = [\n"
+                 "            -mean if x == -128 else x\n"
+                 "            for x in samples_of_symbol]\n"),
+    symbol_lines("a chip lost in one symbol is lost in all",
+                 "        samples_of_symbol = [\n"
+                 "            0 if -128 in samples[k::64] else x\n"
+                 "            for k, x in enumerate(samples_of_symbol)]\n"),
+    symbol_lines("only the first symbol has lost samples",
+                 "        if i > 0:\n"
+                 "            samples_of_symbol = [\n"
+                 "                max(x, -127) for x in samples_of_symbol]\n"),
+    symbol_lines("only the last symbol has lost samples",
+                 "        if 64 * i + 64 < len(samples):\n"
+                 "            samples_of_symbol = [\n"
+                 "                max(x, -127) for x in samples_of_symbol]\n"),
+    symbol_lines("a symbol that was all lost is not written at the end",
+                 "        if set(samples[64 * i:]) == {-128}:\n"
+                 "            break\n"),
+    symbol_lines("a symbol that was all lost is as the one before it",
+                 "        if set(samples_of_symbol) == {-128} and i > 0:\n"
+                 "            result = result + result[-64:]\n"
+                 "            continue\n"),
+    ("all lost is taken before a refusal is tried", CHIPS, REFUSAL,
+     "    if set(samples) == {-128}:\n"
+     "        return 0, [0] * output_length\n" + REFUSAL),
+    ("all lost is refused by 2", CHIPS, WHOLE_2,
+     WHOLE_2 + "    if set(samples) == {-128}:\n        return 2\n"),
+    ("a symbol that was all lost is refused by 9", CHIPS, TRIED + IF_REFUSED,
+     TRIED + "    for i in range(len(samples) // 64):\n"
+     "        if set(samples[64 * i:64 * i + 64]) == {-128}:\n"
+     "            number = number or 9\n" + IF_REFUSED),
+    ("a lost sample is refused by 8", CHIPS, TRIED + IF_REFUSED,
+     TRIED + "    if -128 in samples:\n"
+     "        number = number or 8\n" + IF_REFUSED),
 ]
 
 
@@ -889,7 +1069,8 @@ CALL = [
      "for later in range(n, l, -1):", "for later in range(l + 1, n + 1):"),
 ]
 
-VARIANTS = ENCODER + CHIP + DECODER + TRIP + READER + WRITER + ORDERS + CALL
+VARIANTS = (ENCODER + CHIP + LOST + DECODER + TRIP + READER + WRITER + ORDERS
+            + CALL)
 
 
 # --- One variant -------------------------------------------------------------

@@ -14,7 +14,7 @@ from pieces import coefs_slice, lent, map_slice, places, symbols_slice
 # The state from which all cases are drawn, one after the other.
 FIRST_STATE = 440
 
-# In a quarter of the cases one sample of about so many is -128.
+# In a quarter of the cases one sample of about so many is lost: it is -128.
 LOST = 127
 
 
@@ -44,7 +44,7 @@ def draw_channel(generator, Qc):
 
     The amplitude is small in most frames, and the gain such that the penalties
     are mostly neither all 0 nor all at the cap.  In a frame of large samples
-    many reach -127 and 127.
+    many reach -127 and 127; -128 is only written for a lost one.
     """
     large = generator.draw() % 4 == 0
     amplitude = generator.draw() % 6 + 1
@@ -60,8 +60,8 @@ def draw_channel(generator, Qc):
     return amplitude, noise, lost, top, bottom
 
 
-def block(generator, n, Qc, Qm):
-    """The records of one case."""
+def case_calls(generator, n, Qc, Qm):
+    """The calls of one case in order, each with its letter."""
     size, count = code_sizes(n)
     map = frozen(generator, map_slice(generator, size))
     base = draw_base(generator)
@@ -83,9 +83,14 @@ def block(generator, n, Qc, Qm):
                   work=lent(generator, "work", 65 * size),
                   symbols=lent(generator, "symbols", size),
                   report=lent(generator, "report", 64 * size))
-    return [records.record(letter, call) for letter, call in (
-        ("e", encode), ("s", spread), ("c", channel), ("d", weigh),
-        ("D", decode))]
+    return [("e", encode), ("s", spread), ("c", channel), ("d", weigh),
+            ("D", decode)]
+
+
+def block(generator, n, Qc, Qm):
+    """The records of one case."""
+    return [records.record(letter, call)
+            for letter, call in case_calls(generator, n, Qc, Qm)]
 
 
 def blocks():

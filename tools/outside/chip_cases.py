@@ -85,8 +85,8 @@ def spread_blocks(generator):
 # --- Weighing ----------------------------------------------------------------
 
 def draw_samples(generator, mode, length):
-    """Samples: any signed bytes, or those at the limits; or what was made
-    before."""
+    """Samples: any signed bytes, -128 for a lost sample among them; or those
+    at the limits, a quarter of them lost; or what was made before."""
     if mode == 0:
         return records.drawn(length, generator.draw(), 0, 256, 255)
     if mode == 1:

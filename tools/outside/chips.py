@@ -1,7 +1,8 @@
 """CCSK chips and penalties, written literally from the paper's section
-"Chips and penalties" and its table "Refused". Plain and slow on purpose.
+"Chips and penalties" and its table "Refused", and from request 02, by which
+-128 is a lost sample and has magnitude 0. Plain and slow on purpose.
 
-Open points in the paper, and the reading chosen for each:
+Open points in the paper and the request, and the reading chosen for each:
 
 1. Length of a lent buffer. "A slice has a length other than needed" is read
    as exact: a longer buffer is refused by 2 just as a shorter one (the
@@ -29,6 +30,19 @@ Open points in the paper, and the reading chosen for each:
     empty slice has no place, and a negative place is outside: both give the
     empty part. The part is a copy here, not a part of the caller's list.
 11. "Buffers unchanged" is shown by the result None.
+12. Which samples are lost. Only -128 is; -127 has magnitude 127, as before.
+13. The hard chip of -128. By its rule it is 1, as -128 is below 0. With
+    magnitude 0 the sample adds nothing, whatever chip it is compared with,
+    so its hard chip doesn't matter, and -128 and 0 give the same penalties.
+14. "Adds nothing" is said of the raw penalty. The other samples of the symbol
+    count as they do without a lost one: they keep their chips, and neither
+    they nor the gain are raised for the samples that are missing.
+15. A symbol all of whose 64 samples were lost. Each raw penalty is 0, so are
+    the least and each penalty, for every base, gain and Qc. No number of the
+    table fits, so the call is taken, also where all samples of all symbols
+    were lost.
+16. Lost samples in a call that is refused change nothing: no number of the
+    table depends on what the samples are.
 """
 
 
@@ -66,7 +80,9 @@ def hard_chip(sample):
 
 
 def magnitude(sample):
-    """Magnitude of a sample; -128 has 128."""
+    """Magnitude of a sample; -128, a lost sample, has 0."""
+    if sample == -128:
+        return 0
     if sample < 0:
         return -sample
     return sample
@@ -167,8 +183,8 @@ def place_penalties(penalties, place):
     return penalties[64 * place:64 * place + 64]
 
 
-def self_test():
-    """The paper's rows worked by hand on base, chips and gain."""
+def test_worked_rows():
+    """Assert the paper's rows worked by hand on base, chips and gain."""
     # Base 1: symbol 1 has only chip 63 set.
     assert spread(1, [1], 1) == (0, [2 ** 63])
 
@@ -189,6 +205,127 @@ def self_test():
     assert weigh(1, samples, 1, 20, 3, 64) == (0, [0] + [1] * 63)
 
 
+def test_magnitudes():
+    """Assert the magnitude of every sample."""
+    for sample in range(128):
+        assert magnitude(sample) == sample
+    for sample in range(-127, 0):
+        assert magnitude(sample) == -sample
+    assert magnitude(-128) == 0
+
+
+def test_one_lost():
+    """Assert the worked samples with one of them lost, and with -127 there.
+
+    Base 1: symbol 0 has only chip 0 set, symbol 63 only chip 1, and symbol 1
+    only chip 63.  Symbol 0 differs from none of the worked samples, any other
+    from that of chip 0 and from that of its own chip: 10 and 10.
+    """
+    for bottom, one, both in ((4, 2, 5), (20, 0, 1), (10, 1, 2),
+                              (1, 7, 7)):
+        # Chip 0 lost: any other symbol than 0 differs at its own chip alone.
+        samples = [-128] + [10] * 63
+        assert weigh(1, samples, 1, bottom, 3, 64) == (0, [0] + [one] * 63)
+        # Chip 1 lost: symbol 63 differs at chip 0 alone.
+        samples = [-10, -128] + [10] * 62
+        assert weigh(1, samples, 1, bottom, 3, 64) == (
+            0, [0] + [both] * 62 + [one])
+        # Chip 63 lost: symbol 1 differs at chip 0 alone.
+        samples = [-10] + [10] * 62 + [-128]
+        assert weigh(1, samples, 1, bottom, 3, 64) == (
+            0, [0] + [one] + [both] * 62)
+    # -127 at chip 0 is not lost: each other symbol differs by 127 and 10.
+    samples = [-127] + [10] * 63
+    assert weigh(1, samples, 1, 20, 5, 64) == (0, [0] + [6] * 63)
+    # At chip 1: symbol 0 differs by 127, symbol 63 by 10 at chip 0 alone, the
+    # others by 10, 127 and 10.
+    samples = [-10, -127] + [10] * 62
+    assert weigh(1, samples, 1, 10, 5, 64) == (0, [11] + [13] * 62 + [0])
+
+
+def test_all_lost():
+    """Assert 64 zeros for a symbol all of whose samples were lost, alone and
+    among others, and the penalties where one of 64 was not."""
+    worked = [-10] + [10] * 63
+    lost = [-128] * 64
+    zeros = [0] * 64
+    for base in (1, 2, 2 ** 64 - 2, 0x9A3F1C70E5B2D486):
+        for top, bottom in ((1, 255), (1, 1), (255, 1)):
+            for Qc in range(1, 6):
+                assert weigh(base, lost, top, bottom, Qc, 64) == (0, zeros)
+    fives = [0] + [5] * 63
+    for samples, penalties in (
+            (lost + worked, zeros + fives),
+            (worked + lost, fives + zeros),
+            (worked + lost + worked, fives + zeros + fives),
+            (lost + worked + lost, zeros + fives + zeros),
+            (lost * 256, zeros * 256)):
+        assert weigh(1, samples, 1, 4, 3, len(samples)) == (0, penalties)
+    # One sample that was not lost: symbol 0 alone agrees with it.
+    for at in range(64):
+        samples = [-128] * at + [-1] + [-128] * (63 - at)
+        number, result = weigh(2 ** at, samples, 9, 1, 5, 64)
+        assert (number, result) == (0, [0] + [9] * 63)
+
+
+def test_lost_refused():
+    """Assert that calls with lost samples are refused like others."""
+    lost = [-128] * 64
+    for length in (0, 63, 65, 64 * 257):
+        assert weigh(1, [-128] * length, 1, 4, 3, length) == (2, None)
+    assert weigh(1, lost, 1, 4, 3, 63) == (2, None)
+    assert weigh(1, lost, 1, 4, 0, 64) == (3, None)
+    assert weigh(2 ** 32 + 1, lost, 1, 4, 3, 64) == (10, None)
+    assert weigh(1, lost, 0, 4, 3, 64) == (11, None)
+
+
+def weighed_with(samples, places, value):
+    """What weighing answers for the samples of the test below with the same
+    value in each of these places."""
+    changed = list(samples)
+    for at in places:
+        changed[at] = value
+    number, result = weigh(0x9A3F1C70E5B2D486, changed, 1, 120, 5, 192)
+    assert number == 0
+    return result
+
+
+def test_lost_as_zero():
+    """Assert that -128 and 0 in the same places give the same penalties, and
+    that -127 there gives others."""
+    number, numbers = spread(0x9A3F1C70E5B2D486, [0, 21, 63], 3)
+    samples = []
+    for i in range(64 * 3):
+        # From 1 to 127, and negative for chip 1.
+        sample = 1 + 37 * i % 127
+        if chip(numbers[i // 64], i % 64) == 1:
+            sample = -sample
+        samples.append(sample)
+    for places in ([0], [63], [64], [100], [191], [0, 64, 128], [5, 6, 7],
+                   range(0, 192, 3), range(60, 70), range(1, 64),
+                   range(50, 150)):
+        lost = weighed_with(samples, places, -128)
+        assert lost == weighed_with(samples, places, 0)
+        assert lost != weighed_with(samples, places, -127)
+    # Whole symbols: the same sample 64 times differs from each symbol alike.
+    for places in (range(64), range(64, 128), range(128, 192), range(192)):
+        lost = weighed_with(samples, places, -128)
+        assert lost == weighed_with(samples, places, 0)
+        assert lost == weighed_with(samples, places, -127)
+
+
+def self_test():
+    """The paper's rows worked by hand on base, chips and gain, and what
+    request 02 says of lost samples."""
+    test_worked_rows()
+    test_magnitudes()
+    test_one_lost()
+    test_all_lost()
+    test_lost_refused()
+    test_lost_as_zero()
+
+
 if __name__ == "__main__":
     self_test()
-    print("chips.py: the paper's rows on base, chips and gain hold")
+    print("chips.py: the paper's rows on base, chips and gain hold, and "
+          "request 02")

@@ -56,6 +56,9 @@ Open points in the paper, and the reading chosen for each:
 18. The frame printed by the program in the paper names no samples. It is that
     of a sent word, the transform of (0, 33), and is reached here with base 1,
     amplitude 10 and gain 3/20.
+19. By request 02 a sample -128 is a lost one. The samples here are +A and -A,
+    A being at most 127, so none of them is lost, and the noiseless statement
+    is read as before.
 """
 
 import collections

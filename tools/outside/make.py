@@ -23,6 +23,7 @@ import decode_cases
 import encode_cases
 import link_cases
 import listing_cases
+import lost_cases
 import program_cases
 import reading_cases
 import records
@@ -33,8 +34,9 @@ CRATES = pathlib.Path(__file__).resolve().parents[2] / "crates"
 
 RECORDED = "recorded_calls"
 
-PARTS = (worked_cases, encode_cases, chip_cases, decode_cases, link_cases,
-         reading_cases, listing_cases, any_cases, chain_cases, writing_cases)
+PARTS = (worked_cases, encode_cases, chip_cases, lost_cases, decode_cases,
+         link_cases, reading_cases, listing_cases, any_cases, chain_cases,
+         writing_cases)
 
 # The numbers that each call can give: 0 for one that is taken, else a refusal
 # or a verdict.  For the part of a place its length.

@@ -51,11 +51,12 @@ def worked_files(generator, n):
 
 
 def draw_sample(generator, chip):
-    """A sample of a chip sent with noise, a signed byte."""
+    """A sample of a chip sent with noise, held within -127 to 127: -128 would
+    be a lost one."""
     sample = -MAGNITUDE if chip == 1 else MAGNITUDE
     for _ in range(4):
         sample += generator.draw() % (2 * NOISE + 1) - NOISE
-    return max(-128, min(127, sample))
+    return max(-127, min(127, sample))
 
 
 def noisy_files(generator, n):

@@ -308,7 +308,8 @@ def buffer_checksum(name, entries):
 # --- Channel -----------------------------------------------------------------
 
 def channel(amplitude, noise, lost, seed, numbers, length):
-    """The samples, by their bytes, of numbers sent through the channel."""
+    """The samples, by their bytes, of numbers sent through the channel; -128
+    stands for a lost one alone."""
     generator = Generator(seed)
     samples = []
     for i in range(length):

@@ -49,6 +49,15 @@ def weigh_rows():
         yield "d", call, [0], dict(frame=spike(0, penalty))
 
 
+def lost_rows():
+    """The same with gain 1/4 and chip 0 lost, and with all samples lost."""
+    for samples, penalty in ((repeated(64, 10).with_entry(0, -128 % 256), 2),
+                             (repeated(64, -128 % 256), 0)):
+        call = dict(base=1, samples=samples, top=1, bottom=4, Qc=3,
+                    frame=repeated(64, 4711))
+        yield "d", call, [0], dict(frame=spike(0, penalty))
+
+
 def decode_rows():
     """The two frames of N = 2; the second clips at Qc = Qm = 2."""
     frame = written(spike(5, 1) + spike(4, 1))
@@ -126,7 +135,7 @@ def written_line_rows():
 
 def rows():
     """All rows: the letter, the call, the numbers answered, what is left."""
-    for part in (encode_rows, spread_rows, weigh_rows, decode_rows,
+    for part in (encode_rows, spread_rows, weigh_rows, lost_rows, decode_rows,
                  listing_rows, trip_rows, sheet_rows, written_sheet_rows,
                  written_line_rows):
         yield from part()
