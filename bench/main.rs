@@ -502,9 +502,9 @@ fn any_demap(draws: &mut Draws, symbols: usize) -> Demap {
     let word: Vec<u8> = (0..symbols).map(|_| draws.below(64) as u8).collect();
     let samples: Vec<i8> = match draws.below(5) {
         0 => noisy_samples(draws, base, &word),
-        4 => with_lost(noisy_samples(draws, base, &word), draws),
-        1 => (0..64 * symbols).map(|_| draws.pick(&[-128, -127, -1, 0, 1, 127])).collect(),
-        2 => vec![draws.pick(&[-128, 0, 127]); 64 * symbols],
+        1 => with_lost(noisy_samples(draws, base, &word), draws),
+        2 => (0..64 * symbols).map(|_| draws.pick(&[-128, -127, -1, 0, 1, 127])).collect(),
+        3 => vec![draws.pick(&[-128, 0, 127]); 64 * symbols],
         _ => (0..64 * symbols).map(|_| draws.next() as i8).collect(),
     };
     let (top, bottom) = match draws.below(4) {

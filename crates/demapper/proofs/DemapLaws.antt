@@ -15,14 +15,14 @@ use Rattle.demapper.specs.Parts.{Symbols}
 
 module _ (base top bottom qc : ℕ) (samples : List ℤ) (buffer : List ℕ) where
   -- no row has the number 0
-  numbered : Numbered (demapTable base top bottom qc samples buffer)
+  numbered : Numbered (demapTable base top bottom qc (length samples) buffer)
   numbered = (lit< tt, (lit< tt, (lit< tt, (lit< tt, (lit< tt, (lit< tt, (lit< tt, tt)))))))
 
   -- accepted exactly when no row fits
   pub accepted : demapRefusal base top bottom qc samples buffer ≡ 0 → Demappable base top bottom qc samples buffer
   unfolding demapRefusal
   accepted e =
-      let f = accepted-none (demapTable base top bottom qc samples buffer) numbered e in
+      let f = accepted-none (demapTable base top bottom qc (length samples) buffer) numbered e in
       let g = f .1 .1 .1 in
       record {
         whole = false-equal (length samples % 64) 0 (f .0);
@@ -38,7 +38,7 @@ module _ (base top bottom qc : ℕ) (samples : List ℤ) (buffer : List ℕ) whe
   pub accepts : Demappable base top bottom qc samples buffer → demapRefusal base top bottom qc samples buffer ≡ 0
   unfolding demapRefusal
   accepts t =
-      none-accepted (demapTable base top bottom qc samples buffer) (
+      none-accepted (demapTable base top bottom qc (length samples) buffer) (
         equal-false (length samples % 64) 0 (t .whole),
         (
           within-inside 1 256 (length samples / 64) (t .count),

@@ -54,7 +54,7 @@ pub by-base : (base top bottom qc : ℕ) (samples : List ℤ) → llrsBy (chipsT
 unfolding llrs
 by-base base top bottom qc samples = ap (λ (v : List ℕ). quantisedLlrs top bottom qc (lessLeast v)) (raw-by-base base samples)
 
--- a raw penalty of 0 less the least has a penalty of 0
+-- 0 times the gain, rounded down and capped, is 0
 pub quantised-zero : (top bottom qc : ℕ) → quantised top bottom qc 0 ≡ 0
 unfolding quantised
 quantised-zero top bottom qc =

@@ -2,7 +2,7 @@
 use mathlib.Core.Path.{_≡_, refl, sym, ap, ap₂, _∙_, subst}
 use mathlib.Core.Logic.{inl, inr}
 use mathlib.Core.Bool.{Bool, true, false, cond, _&&_}
-use mathlib.Core.List.{List, [], _∷_}
+use mathlib.Core.List.{List}
 use Prim.Native.Nat.{ℕ, suc, _+_, _*_, _/_, _-_, _<_, _≤_}
 use native.Mathlib.Nat.{zero-sub}
 use native.Mathlib.Omega.{arith}
@@ -15,10 +15,9 @@ use Rattle.vector.specs.Vector.{tabulate, sumTo, joined, vectorAt, lessLeast, l
 use Rattle.vector.proofs.Laws.{getD-tabulate, tabulate-ext, joined-ext, sum-ext, less-least-at}
 use Rattle.vector.proofs.SliceLaws.{vector-entry-of}
 use Rattle.refusal.specs.Table.{refusalOf}
-use Rattle.refusal.specs.Rows.{lengthRow, qcRow}
-use Rattle.ccsk.specs.Chips.{symbolChip, countRow, baseRow}
+use Rattle.ccsk.specs.Chips.{symbolChip}
 use Rattle.demapper.specs.Samples.{lost, isLost, hardChip, magnitude, added, raw, rawLlrs, quantised, quantisedLlrs, llrs}
-use Rattle.demapper.specs.Demap.{frameOf, wholeRow, gainRow, demapRefusal, demapBuffer}
+use Rattle.demapper.specs.Demap.{frameOf, demapTable, demapRefusal, demapBuffer}
 use Rattle.demapper.specs.Lost.{SameOrLost, SameButLost, LostAsZero, SymbolLost, LostZeros}
 use Rattle.demapper.proofs.LlrLaws.{added-le, quantised-zero}
 use Rattle.demapper.proofs.FrameLaws.{frame-part}
@@ -100,12 +99,10 @@ module _ (one other : List ℤ) (h : SameButLost one other) where
       joined-ext (length one / 64) _ _ (llrs-same base top bottom qc)
       ∙ ap (λ (n : ℕ). joined (n / 64) (λ i. llrs base top bottom qc (vectorAt other i))) (h .long)
 
-  -- the number that `demap` returns: it looks at the count of samples alone
+  -- the number that `demap` returns: of the samples their number alone counts
   refusal-same : (base top bottom qc : ℕ) (buffer : List ℕ) → demapRefusal base top bottom qc one buffer ≡ demapRefusal base top bottom qc other buffer
   unfolding demapRefusal
-  refusal-same base top bottom qc buffer =
-      ap (λ (n : ℕ). refusalOf (
-      wholeRow n ∷ countRow (n / 64) ∷ lengthRow (length buffer) n ∷ qcRow qc ∷ baseRow base ∷ gainRow top ∷ gainRow bottom ∷ [])) (h .long)
+  refusal-same base top bottom qc buffer = ap (λ (n : ℕ). refusalOf (demapTable base top bottom qc n buffer)) (h .long)
 
 -- so the two are weighed alike: what `demap` leaves in its buffer is made of the number and the frame
 pub lost-as-zero : (one other : List ℤ) → LostAsZero one other

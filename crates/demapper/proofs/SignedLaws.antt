@@ -13,6 +13,7 @@ use mir.Syntax.{w8, w16}
 use mir.Val.{toZ, ofZ, Fits, SFits}
 use mir.ValLaws.{toZ-ofZ}
 use Rattle.demapper.specs.Samples.{isLost, magnitude}
+use Rattle.demapper.proofs.LostLaws.{kept-magnitude}
 
 -- a number below 0 is what it gives without its sign, taken off 0
 below-zero : (y : ℤ) → ltZ y (pos 0) ≡ true → pos 0 -ℤ y ≡ pos (natAbs y)
@@ -110,8 +111,4 @@ module _ (y : ℤ) (small : SFits w8 y) where
 
     -- the magnitude is just that
     pub kept-size : (natAbs y ≡ magnitude y) × (natAbs y ≤ 127)
-    unfolding magnitude isLost
-    kept-size = (
-      sym (ap (λ (b : Bool). cond (b && eqb (natAbs y) 128) 0 (natAbs y)) not-negative),
-      at-most-kept y small not-negative,
-    )
+    kept-size = let l = at-most-kept y small not-negative in (sym (kept-magnitude y l), l)

@@ -25,12 +25,12 @@ wholeRow count = (2, unequal (count % 64) 0)
 abbrev pub gainRow : ℕ → Row
 gainRow part = (11, outside 1 255 part)
 
--- the rows of document 01's table that `demap` has the input for, in its order
-abbrev pub demapTable : (base top bottom qc : ℕ) → List ℤ → List ℕ → List Row
-demapTable base top bottom qc samples buffer =
-    wholeRow (length samples)
-    ∷ countRow (length samples / 64)
-    ∷ lengthRow (length buffer) (length samples)
+-- the rows of document 01's table that `demap` has the input for, in its order; of the samples only their number counts
+abbrev pub demapTable : (base top bottom qc : ℕ) → (number : ℕ) → List ℕ → List Row
+demapTable base top bottom qc number buffer =
+    wholeRow number
+    ∷ countRow (number / 64)
+    ∷ lengthRow (length buffer) number
     ∷ qcRow qc
     ∷ baseRow base
     ∷ gainRow top
@@ -49,7 +49,7 @@ pub record Demappable (base top bottom qc : ℕ) (samples : List ℤ) (buffer : 
 
 -- the number that `demap` returns, 0 where it accepts its input
 unfoldable pub demapRefusal : (base top bottom qc : ℕ) → List ℤ → List ℕ → ℕ
-demapRefusal base top bottom qc samples buffer = refusalOf (demapTable base top bottom qc samples buffer)
+demapRefusal base top bottom qc samples buffer = refusalOf (demapTable base top bottom qc (length samples) buffer)
 
 -- what the lent buffer holds afterwards: the penalties, or on a refusal what it held
 unfoldable pub demapBuffer : (base top bottom qc : ℕ) → List ℤ → List ℕ → List ℕ

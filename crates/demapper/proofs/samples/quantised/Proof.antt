@@ -1,6 +1,6 @@
 -- `quantised` meets its contract: the product of a 16-bit number and at most 255 fits, and the smaller of two is chosen.
 use mathlib.Core.Path.{_≡_, sym, ap₂, _∙_}
-use Prim.Native.Nat.{_*_, _-_, _≤_, min}
+use Prim.Native.Nat.{_*_, _≤_, min}
 use native.Mathlib.Omega.{arith}
 use native.Mathlib.Nat.{min-eq-left, min-eq-right, le-of-lt, mul-le-mul}
 use Rattle.vector.proofs.FrameLaws.{largest-is}
