@@ -44,9 +44,9 @@ pub extern "C" fn zithejo_demap(
     demapper::demap(base, samples, top, bottom, qc, llrs)
 }
 
-// Decodes a frame, as `decoder::decode`. Returns 0, with the symbols, the report and the count of clipped entries in
-// the places lent for them, and the work buffer all zeros; or the lowest refusal of 1, 2, 3, 4, 5, 6, 8 and 9 that
-// fits, and leaves every buffer and the count as they came.
+// Decodes a frame, as `decoder::decode`. Returns 0, with the symbols, the report, the totals and the count of clipped
+// entries in the places lent for them, and the work buffer all zeros; or the lowest refusal of 1, 2, 3, 4, 5, 6, 8 and 9
+// that fits, and leaves every buffer and the count as they came.
 #[no_mangle]
 pub extern "C" fn zithejo_decode(
     n: usize,
@@ -58,15 +58,16 @@ pub extern "C" fn zithejo_decode(
     work: &mut [u16],
     symbols: &mut [u8],
     report: &mut [u16],
+    totals: &mut [u16],
     count: &mut u32,
 ) -> u8
     ensures { λ r. ⌜ DecodeCalled (codeOf n (now (map .entry)) (now (coefs .entry))) (settingsOf qc qm)
         (now (frame .entry))
-        (lentOf (now (work .entry)) (now (symbols .entry)) (now (report .entry)))
-        (lentOf (now (work .exit)) (now (symbols .exit)) (now (report .exit)))
+        (lentOf (now (work .entry)) (now (symbols .entry)) (now (report .entry)) (now (totals .entry)))
+        (lentOf (now (work .exit)) (now (symbols .exit)) (now (report .exit)) (now (totals .exit)))
         (now (count .entry)) (now (count .exit)) r ⌝ }
 {
-    let answer = decoder::decode(n, map, coefs, qc, qm, frame, work, symbols, report);
+    let answer = decoder::decode(n, map, coefs, qc, qm, frame, work, symbols, report, totals);
     match answer {
         Answer::Count(clipped) => {
             *count = clipped;

@@ -2,7 +2,7 @@
 use mathlib.Core.Path.{_≡_, refl, sym, ap, ap₂, _∙_, subst}
 use mathlib.Core.List.{List, [], _∷_, _++_}
 use Prim.Native.Nat.{ℕ, zero, _+_, _*_, _-_, _/_, _^_, _≤_, _<_}
-use native.Mathlib.Nat.{le-trans, add-zero, mul-le-mul}
+use native.Mathlib.Nat.{le-trans, add-zero, zero-add, mul-le-mul}
 use native.Mathlib.Omega.{arith}
 use lib.Pow.{pow-mono, pow-pos}
 use lib.ListN.{length, getD, take, drop, length-drop, List·getD-append}
@@ -11,7 +11,7 @@ use Rattle.vector.specs.Vector.{vectorAt, AtMost}
 use Rattle.vector.specs.Frame.{largestLlr}
 use Rattle.gf64.specs.Field.{NonZero}
 use Rattle.polar_code.specs.Code.{kindOf, Coefficients}
-use Rattle.polar.specs.Tree.{All, leaves, treeOf, here, at, number}
+use Rattle.polar.specs.Tree.{map1, All, leaves, treeOf, here, at, number}
 use Rattle.polar.specs.Halves.{coefsAt}
 use Rattle.polar.specs.Parts.{Block}
 use Rattle.polar.specs.Join.{Halves, Joined}
@@ -23,17 +23,18 @@ use Rattle.vector.proofs.LentParts.{tail, put, tail-drop, front-long, lent-long
 use Rattle.polar.proofs.BlockLaws.{split}
 use Rattle.vector.proofs.Laws.{sum-ext}
 use Rattle.vector.proofs.SliceLaws.{vector-drop}
-use Rattle.scms.specs.Nodes.{checkNode, lessFrom, clipped, exceeding, variableNode, clippedEntries}
+use Rattle.scms.specs.Nodes.{Lowered, checkNode, lessFrom, clipped, exceeding, variableNode}
 use Rattle.scms.specs.Decision.{decision}
 use Rattle.scms.specs.Halves.{Vectors, decodeTree, frameTree}
-use Rattle.scms.proofs.NodeLaws.{check-zero, check-most, llrs-from, count-from, variable-zero, variable-cap}
+use Rattle.scms.proofs.NodeLaws.{check-zero, check-most, llrs-from, count-from, taken-from, variable-zero, variable-cap}
 use Rattle.scms.proofs.TreeLists.{frame-at}
 use Rattle.scms.proofs.TreeDecoder.{decoded-symbols, word-transform}
 use Rattle.phi_order.proofs.OrderLaws.{ordered-small}
-use Rattle.decoder.specs.Parts.{Kept, LayerGiven, KernelsGiven, CheckNodesWritten, FirstSymbols, OrderedGiven, orderedAt, lessAt, AreVariableNodes, clippedTo, VariableNodesWritten, OnePlace, PlaceDecoded, BlockVector, BlockGiven, vectorsFrom, modeAt, blockAnswer, BlockDecoded, WorkDecoded}
+use Rattle.decoder.specs.Parts.{largestNumber, Kept, LayerGiven, KernelsGiven, CheckNodesWritten, FirstSymbols, OrderedGiven, SumFits, orderedAt, lessAt, lessTo, takenTo, VariableNodesWritten, OnePlace, PlaceDecoded, BlockVector, BlockGiven, vectorsFrom, modeAt, blockAnswer, TakenFits, BlockDecoded, WorkDecoded}
 use Rattle.decoder.specs.declared.vectors.BlockAt.{BlockAt}
+use Rattle.decoder.specs.declared.layers.NodeSums.{NodeSums}
 use Rattle.decoder.proofs.LayerLaws.{source-small}
-use Rattle.decoder.proofs.HalvesLaws.{halfAt, withLayers, Step, step}
+use Rattle.decoder.proofs.HalvesLaws.{halfAt, withLayers, Left, AnswerLeft, FirstDone, NodesDone, Step, FirstFits, NodesFit, SecondFits, step, first-fits, nodes-fit, second-fits}
 
 -- ---- words
 
@@ -68,20 +69,12 @@ count-small m count l h = let a = mul-le-mul {n₁ = m} {m₁ = 2 ^ m} {n₂ = 8
 
 -- ---- a block with a layer
 
--- what a call of `decode_block` left in the buffers that it was lent, and its count
-pub record Left : Type 0 where
-  pub work : List ℕ
-  pub word : List ℕ
-  pub symbols : List ℕ
-  pub report : List ℕ
-  pub count : ℕ
-
--- such a call left them as it promises
+-- a call of `decode_block` left its buffers and its count as it promises
 abbrev pub LeftBy : (block : BlockAt) (cs map frame work : List ℕ) → Left → Type 0
-LeftBy block cs map frame work a = WorkDecoded block cs map frame work (a .work) (a .word) (a .symbols) (a .report) (a .count)
+LeftBy block cs map frame work a = WorkDecoded block cs map frame work (a .work) (a .word) (a .symbols) (a .report) (a .totals) (a .count)
 
-module _ {block : BlockAt} {cs map frame work word symbols report : List ℕ} (ne : block .layers ≡ 0 → ⊥)
-    (g : BlockGiven block cs map frame work word symbols report) where
+module _ {block : BlockAt} {cs map frame work word symbols report totals : List ℕ} (ne : block .layers ≡ 0 → ⊥)
+    (g : BlockGiven block cs map frame work word symbols report totals) where
   -- its layers
   abbrev L : ℕ
   L = block .layers
@@ -116,11 +109,11 @@ module _ {block : BlockAt} {cs map frame work word symbols report : List ℕ} (n
 
   -- the first half as a block
   abbrev pub firstBlock : BlockAt
-  firstBlock = halfAt block (L - 1) (start + stride) next
+  firstBlock = halfAt block (L - 1) (start + stride) next (block .taken)
 
-  -- and the second
-  abbrev pub secondBlock : BlockAt
-  secondBlock = halfAt block (L - 1) (start + stride + half / 2) next
+  -- and the second, the nodes that join the two having taken off `taken`
+  abbrev pub secondBlock : (taken : ℕ) → BlockAt
+  secondBlock taken = halfAt block (L - 1) (start + stride + half / 2) next (block .taken + taken)
 
   -- a half has 2^(L − 1) places
   one : 2 ^ (L - 1) ≡ half
@@ -139,6 +132,7 @@ module _ {block : BlockAt} {cs map frame work word symbols report : List ℕ} (n
     pub in-word : half ≤ length word
     pub in-symbols : half ≤ length symbols
     pub in-report : cut ≤ length report
+    pub in-totals : half ≤ length totals
 
   -- it has them
   pub at-sizes : Sizes
@@ -148,6 +142,7 @@ module _ {block : BlockAt} {cs map frame work word symbols report : List ℕ} (n
       let a = g .map-long in
       let b = g .symbols-long in
       let c = g .report-long in
+      let d = g .totals-long in
       record {
         few = z .few;
         start-small = z .start-small;
@@ -156,6 +151,7 @@ module _ {block : BlockAt} {cs map frame work word symbols report : List ℕ} (n
         in-word = z .within;
         in-symbols = omega arith;
         in-report = omega arith;
+        in-totals = omega arith;
       }
 
   -- what the nodes of its kernels are given, the block's vectors being as they were
@@ -193,7 +189,7 @@ module _ {block : BlockAt} {cs map frame work word symbols report : List ℕ} (n
       omega arith
 
   -- with other numbers there the block is given what it was
-  pub at-report : {rs : List ℕ} → length rs ≡ length report → BlockGiven block cs map frame work word symbols rs
+  pub at-report : {rs : List ℕ} → length rs ≡ length report → BlockGiven block cs map frame work word symbols rs totals
   at-report e = record {
     of-word = g .of-word;
     cap-small = g .cap-small;
@@ -201,17 +197,19 @@ module _ {block : BlockAt} {cs map frame work word symbols report : List ℕ} (n
     map-long = g .map-long;
     symbols-long = g .symbols-long;
     report-long = e ∙ g .report-long;
+    totals-long = g .totals-long;
     whole = g .whole;
     in-work = g .in-work;
     long = g .long;
     vectors = g .vectors;
+    taken-fits = g .taken-fits;
   }
 
   -- what the call on a half is given, its vectors being the nodes' that stand after the block's own
-  half-given : (s : ℕ) (bytes xs w ss rs : List ℕ) → length bytes ≡ half → length xs ≡ length work → Block (L - 1) (half / 2) s stride cs w
-      → length ss ≡ half → length rs ≡ cut → ((i : ℕ) → i < half → BlockVector (vectorAt (frame ++ xs) (next + i)))
-      → BlockGiven (halfAt block (L - 1) s next) cs bytes frame xs w ss rs
-  half-given s bytes xs w ss rs lb lx b ls lr vectors =
+  half-given : (s taken : ℕ) (bytes xs w ss rs ts : List ℕ) → length bytes ≡ half → length xs ≡ length work → Block (L - 1) (half / 2) s stride cs w
+      → length ss ≡ half → length rs ≡ cut → length ts ≡ half → ((i : ℕ) → i < half → BlockVector (vectorAt (frame ++ xs) (next + i)))
+      → TakenFits (halfAt block (L - 1) s next taken) cs bytes (frame ++ xs) → BlockGiven (halfAt block (L - 1) s next taken) cs bytes frame xs w ss rs ts
+  half-given s taken bytes xs w ss rs ts lb lx b ls lr lt vectors fits =
       let t = two in
       let p = one in
       let x = g .in-work in
@@ -223,24 +221,28 @@ module _ {block : BlockAt} {cs map frame work word symbols report : List ℕ} (n
         map-long = lb ∙ sym p;
         symbols-long = ls ∙ sym p;
         report-long = lr ∙ ap (λ (h : ℕ). 64 * h) (sym p);
+        totals-long = lt ∙ sym p;
         whole = g .whole;
         in-work = omega arith;
         long = omega arith;
         vectors = λ i l. vectors i (omega arith);
+        taken-fits = fits;
       }
 
   -- the first half, from check nodes
   pub at-first : {work1 X : List ℕ} → length work1 ≡ length work → CheckNodesWritten block half cs frame work work1 X
-      → BlockGiven firstBlock cs (take half map) frame work1 (take half word) (take half symbols) (take cut report)
+      → BlockGiven firstBlock cs (take half map) frame work1 (take half word) (take half symbols) (take cut report) (take half totals)
   at-first {work1} {X} l1 ch =
       let z = at-sizes in
       let t = two in
-      half-given (start + stride) (take half map) work1 (take half word) (take half symbols) (take cut report)
+      let source = frame ++ work in
+      half-given (start + stride) (block .taken) (take half map) work1 (take half word) (take half symbols) (take cut report) (take half totals)
       (length-take-le half map (z .in-map)) l1 (polar.at-first ne (g .of-word)) (length-take-le half symbols (z .in-symbols))
-      (length-take-le cut report (z .in-report))
+      (length-take-le cut report (z .in-report)) (length-take-le half totals (z .in-totals))
       (λ i l. subst BlockVector (sym (ch .nodes i l))
-      (check-vector (getD cs (start + i) 1) cs (vectorAt (frame ++ work) (o + i)) (vectorAt (frame ++ work) (o + (half + i))) (start + i) refl (g .nonzero)
+      (check-vector (getD cs (start + i) 1) cs (vectorAt source (o + i)) (vectorAt source (o + (half + i))) (start + i) refl (g .nonzero)
       (g .vectors i (omega arith)) (g .vectors (half + i) (omega arith))))
+      (split (FirstFits block cs map source) (first-fits block cs map source) L half ne (g .of-word .halved) (g .taken-fits) (frame ++ work1) (ch .nodes))
 
   -- what is known after the first half: X is what the check nodes left in the second half of the report, A what the call left
   pub record FirstHalf (work1 X : List ℕ) (A : Left) : Type 0 where
@@ -251,6 +253,7 @@ module _ {block : BlockAt} {cs map frame work word symbols report : List ℕ} (n
     pub word-long : length (A .word) ≡ length (take half word)
     pub symbols-long : length (A .symbols) ≡ length (take half symbols)
     pub report-long : length (A .report) ≡ length (take cut report)
+    pub totals-long : length (A .totals) ≡ length (take half totals)
     pub decoded : LeftBy firstBlock cs (take half map) frame work1 A
 
   module _ {work1 X : List ℕ} {A : Left} (f : FirstHalf work1 X A) where
@@ -262,9 +265,13 @@ module _ {block : BlockAt} {cs map frame work word symbols report : List ℕ} (n
     abbrev ss : List ℕ
     ss = A .symbols ++ drop half symbols
 
-    -- and the report
+    -- the report
     abbrev rs : List ℕ
     rs = A .report ++ drop cut report
+
+    -- and the totals
+    abbrev ts : List ℕ
+    ts = A .totals ++ drop half totals
 
     -- the block's vectors are as they were
     kept2 : Kept next (frame ++ work) (frame ++ A .work)
@@ -309,43 +316,71 @@ module _ {block : BlockAt} {cs map frame work word symbols report : List ℕ} (n
           (word-symbols firstBlock cs (take half map) (vectorsFrom (L - 1) next (frame ++ work1)) t (omega arith));
     }
 
-    module _ {work3 : List ℕ} {count : ℕ} (l3 : length work3 ≡ length (A .work)) (v : VariableNodesWritten block half w frame (A .work) lent work3 count) where
-      -- what a node is before the clip, from the block's vectors as they came
-      less-is : (t : ℕ) → t < half → lessAt o w (frame ++ A .work) lent t
-          ≡ lessFrom (getD w t 0) (vectorAt (frame ++ work) (o + t)) (orderedAt block half cs (frame ++ work) t) .rest
-      less-is t l = ap₂ (λ (x y : List ℕ). lessFrom (getD w t 0) x y .rest) (kept2 (o + t) (omega arith)) (ordered-is t l)
+    -- the block's vectors as they came
+    abbrev source : List ℕ
+    source = frame ++ work
 
-      -- the variable nodes, from the block's vectors as they came
-      variables-are : AreVariableNodes block half cs (frame ++ work) w half (frame ++ work3)
-      variables-are t l = v .nodes t l ∙ ap (clipped cap) (less-is t l) ∙ llrs-from cap (getD cs (start + t) 1) (getD w t 0) _ _
+    -- what the step of the block needs to know of it
+    first-done : FirstDone block cs map source (L - 1) half (frame ++ work1) w A
+    first-done = record { checked = f .checked .nodes; decoded = f .decoded .decoded; in-word = in-first }
 
-      -- and their count of clipped entries
-      counted : count ≡ clippedTo block half cs (frame ++ work) w half
-      counted =
-          v .count-is
-          ∙ sum-ext half (λ t. exceeding cap (lessAt o w (frame ++ A .work) lent t))
-          (λ t. clippedEntries cap (getD cs (start + t) 1) (getD w t 0) (vectorAt (frame ++ work) (o + t)) (vectorAt (frame ++ work) (o + (half + t))))
-          (λ t l. ap (exceeding cap) (less-is t l) ∙ count-from cap (getD cs (start + t) 1) (getD w t 0) _ _)
+    -- a node before the clip, and what it took off, from these vectors
+    less-is : (t : ℕ) → t < half → lessAt o w (frame ++ A .work) lent t ≡ lessFrom (getD w t 0) (vectorAt source (o + t)) (orderedAt block half cs source t)
+    less-is t l = ap₂ (lessFrom (getD w t 0)) (kept2 (o + t) (omega arith)) (ordered-is t l)
+
+    -- what all of them took off
+    off-is : lessTo o w (frame ++ A .work) lent half ≡ takenTo block half cs source w half
+    off-is = sum-ext half (λ t. lessAt o w (frame ++ A .work) lent t .taken) _ (λ t l.
+        ap (λ (x : Lowered). x .taken) (less-is t l) ∙ taken-from (getD cs (start + t) 1) (getD w t 0) _ _)
+
+    -- it fits, what was taken off before counted
+    off-fits : block .taken + takenTo block half cs source w half ≤ largestNumber
+    off-fits = split (NodesFit block cs map source) (nodes-fit block cs map source) L half ne (g .of-word .halved) (g .taken-fits) (frame ++ work1) w A first-done
+
+    -- so it is among what the variable nodes are given
+    pub at-sum : SumFits o half w (frame ++ A .work) lent
+    at-sum = let a = off-is in let b = off-fits in omega arith
+
+    module _ {work3 : List ℕ} {sums : NodeSums} (l3 : length work3 ≡ length (A .work)) (v : VariableNodesWritten block half w frame (A .work) lent work3 sums) where
+      -- the variable nodes, from the block's vectors as they came, their count of clipped entries, and what they took off
+      nodes-done : NodesDone block cs map source half (frame ++ work3) w sums
+      nodes-done = record {
+        nodes = λ t l. v .nodes t l ∙ ap (λ (x : Lowered). clipped cap (x .rest)) (less-is t l) ∙ llrs-from cap (getD cs (start + t) 1) (getD w t 0) _ _;
+        count-is = v .count-is
+            ∙ sum-ext half (λ t. exceeding cap (lessAt o w (frame ++ A .work) lent t .rest)) _ (λ t l.
+            ap (λ (x : Lowered). exceeding cap (x .rest)) (less-is t l) ∙ count-from cap (getD cs (start + t) 1) (getD w t 0) _ _);
+        few = v .few;
+        taken-is = v .taken-is ∙ off-is;
+      }
+
+      -- what was taken off before and what they took off fit
+      pub at-taken : block .taken + sums .taken ≤ largestNumber
+      at-taken = let a = nodes-done .taken-is in let b = off-fits in omega arith
 
       -- the second half, from variable nodes
-      pub at-second : BlockGiven secondBlock cs (tail half map) frame work3 (tail half w) (tail half ss) (tail cut rs)
+      pub at-second : BlockGiven (secondBlock (sums .taken)) cs (tail half map) frame work3 (tail half w) (tail half ss) (tail cut rs) (tail half ts)
       at-second =
           let z = at-sizes in
           let t = two in
           let a = g .map-long in
           let b = g .symbols-long in
           let c = g .report-long in
-          half-given (start + stride + half / 2) (tail half map) work3 (tail half w) (tail half ss) (tail cut rs)
+          let d = g .totals-long in
+          half-given (start + stride + half / 2) (block .taken + sums .taken) (tail half map) work3 (tail half w) (tail half ss) (tail cut rs) (tail half ts)
           (ap length (tail-drop half map) ∙ length-drop half map ∙ omega arith) (l3 ∙ f .work-long ∙ f .checked-long) (polar.at-second ne (g .of-word) (A .word) (f .word-long))
           (ap length (lent-tail half symbols (A .symbols) (f .symbols-long) (z .in-symbols)) ∙ length-drop half symbols ∙ omega arith)
           (ap length (lent-tail cut report (A .report) (f .report-long) (z .in-report)) ∙ length-drop cut report ∙ omega arith)
-          (λ i l. subst BlockVector (sym (variables-are i l))
-          (variable-vector cap (getD cs (start + i) 1) (getD w i 0) (vectorAt (frame ++ work) (o + i)) (vectorAt (frame ++ work) (o + (half + i))) (g .cap-small)))
+          (ap length (lent-tail half totals (A .totals) (f .totals-long) (z .in-totals)) ∙ length-drop half totals ∙ omega arith)
+          (λ i l. subst BlockVector (sym (nodes-done .nodes i l))
+          (variable-vector cap (getD cs (start + i) 1) (getD w i 0) (vectorAt source (o + i)) (vectorAt source (o + (half + i))) (g .cap-small)))
+          (subst (λ (x : List ℕ). TakenFits (secondBlock (sums .taken)) cs x (frame ++ work3)) (sym (tail-drop half map))
+          (split (SecondFits block cs map source) (second-fits block cs map source) L half ne (g .of-word .halved) (g .taken-fits)
+          (frame ++ work1) (frame ++ work3) w A sums first-done nodes-done))
 
       -- and what is known after it: B is what the call left
       pub record SecondHalf (B : Left) : Type 0 where
         pub word-long : length (B .word) ≡ length (tail half w)
-        pub decoded : LeftBy secondBlock cs (tail half map) frame work3 B
+        pub decoded : LeftBy (secondBlock (sums .taken)) cs (tail half map) frame work3 B
 
       module _ {B : Left} (s : SecondHalf B) where
         -- what the kernels that join the two words are given
@@ -354,7 +389,7 @@ module _ {block : BlockAt} {cs map frame work word symbols report : List ℕ} (n
 
         -- the counts of the halves and of the nodes that join them
         abbrev sum : ℕ
-        sum = A .count + count + B .count
+        sum = A .count + sums .count + B .count
 
         -- they add up within 32 bits
         pub at-count : sum ≤ 300000
@@ -368,28 +403,26 @@ module _ {block : BlockAt} {cs map frame work word symbols report : List ℕ} (n
 
         -- the block is decoded, the joined words being `after`
         abbrev pub JoinedBy : (after : List ℕ) → Type 0
-        JoinedBy after = WorkDecoded block cs map frame work (B .work) after (put half ss (B .symbols)) (put cut rs (B .report)) sum
+        JoinedBy after =
+            WorkDecoded block cs map frame work (B .work) after (put half ss (B .symbols)) (put cut rs (B .report)) (put half ts (B .totals)) sum
 
         -- it is
         pub at-done : {after : List ℕ} → length after ≡ length (put half w (B .word)) → Joined half start cs (put half w (B .word)) after → JoinedBy after
         at-done {after} la j =
             let z = at-sizes in
             let t = two in
-            let source = frame ++ work in
-            let F = vectorsFrom L o source in
+            let both-symbols = sym (lent-both half symbols (A .symbols) (f .symbols-long) (z .in-symbols) (B .symbols)) in
+            let both-reports = sym (lent-both cut report (A .report) (f .report-long) (z .in-report) (B .report)) in
+            let both-totals = sym (lent-both half totals (A .totals) (f .totals-long) (z .in-totals) (B .totals)) in
             record {
-              decoded = subst (λ (x : List ℕ). BlockDecoded block cs map F after x (put cut rs (B .report)) sum)
-                  (sym (lent-both half symbols (A .symbols) (f .symbols-long) (z .in-symbols) (B .symbols)))
-                  (subst (λ (x : List ℕ). BlockDecoded block cs map F after (A .symbols ++ B .symbols) x sum)
-                  (sym (lent-both cut report (A .report) (f .report-long) (z .in-report) (B .report)))
+              decoded = subst (AnswerLeft block cs map (vectorsFrom L o source))
+                  (λ i. record { work = B .work; word = after; symbols = both-symbols i; report = both-reports i; totals = both-totals i; count = sum })
                   (split (Step block cs map source) (step block cs map source) L half ne (g .of-word .halved)
-                  (frame ++ work1) (frame ++ work3) w (A .word) (B .word) after (A .symbols) (B .symbols) (A .report) (B .report) (A .count) count (B .count)
-                  (f .checked .nodes) (f .decoded .decoded) in-first variables-are counted (v .few)
-                  (subst (λ (x : List ℕ). BlockDecoded secondBlock cs x (vectorsFrom (L - 1) next (frame ++ work3)) (B .word) (B .symbols) (B .report) (B .count))
-                  (tail-drop half map) (s .decoded .decoded))
+                  (frame ++ work1) (frame ++ work3) w after A B sums first-done nodes-done
+                  (subst (λ (x : List ℕ). AnswerLeft (secondBlock (sums .taken)) cs x (vectorsFrom (L - 1) next (frame ++ work3)) B) (tail-drop half map) (s .decoded .decoded))
                   (front-long cut report (A .report) (f .report-long) (z .in-report))
                   (la ∙ lent-whole half word (A .word) (f .word-long) (z .in-word) (B .word) (s .word-long) ∙ g .of-word .long)
-                  (subst (λ (x : List ℕ). Joined half start cs x after) (lent-both half word (A .word) (f .word-long) (z .in-word) (B .word)) j)));
+                  (subst (λ (x : List ℕ). Joined half start cs x after) (lent-both half word (A .word) (f .word-long) (z .in-word) (B .word)) j));
               kept = λ i l. s .decoded .kept i (omega arith) ∙ v .kept i (omega arith) ∙ kept2 i (omega arith);
             }
 
@@ -405,12 +438,12 @@ one-from : (o : ℕ) (source : List ℕ) → vectorsFrom 0 o source ≡ vectorAt
 one-from o source = one-vector (drop (64 * o) source) ∙ vector-drop o source 0 ∙ ap (vectorAt source) (add-zero o)
 
 -- its place, decoded
-one-place : (block : BlockAt) (cs map source w s r : List ℕ)
+one-place : (block : BlockAt) (cs map source w s r t : List ℕ)
     → let symbol = decision (kindOf (getD map 0 0)) (vectorAt source (block .at)) in
-    w ≡ symbol ∷ [] → s ≡ symbol ∷ [] → vectorAt r 0 ≡ vectorAt source (block .at)
-    → BlockDecoded (withLayers block 0) cs map (vectorsFrom 0 (block .at) source) w s r 0
-unfolding decodeTree treeOf leaves
-one-place block cs map source w s r ew es er =
+    w ≡ symbol ∷ [] → s ≡ symbol ∷ [] → vectorAt r 0 ≡ vectorAt source (block .at) → t ≡ block .taken ∷ []
+    → BlockDecoded (withLayers block 0) cs map (vectorsFrom 0 (block .at) source) w s r t 0
+unfolding decodeTree treeOf leaves map1
+one-place block cs map source w s r t ew es er et =
     let o = block .at in
     let e : decision (kindOf (getD map 0 0)) (vectorAt source o) ∷ [] ≡ decision (kindOf (getD map 0 0)) (vectorsFrom 0 o source) ∷ []
     = ap (λ (v : List ℕ). decision (kindOf (getD map 0 0)) v ∷ []) (sym (one-from o source)) in
@@ -418,18 +451,19 @@ one-place block cs map source w s r ew es er =
       word-is = ew ∙ e;
       symbols-are = es ∙ e;
       report-is = one-vector r ∙ er ∙ sym (one-from o source);
+      totals-are = et ∙ ap (λ (x : ℕ). x ∷ []) (sym (zero-add (block .taken)));
       count-is = refl;
       few = omega arith;
     }
 
-module _ {block : BlockAt} {cs map frame work word symbols report : List ℕ} (e : block .layers ≡ 0)
-    (g : BlockGiven block cs map frame work word symbols report) where
+module _ {block : BlockAt} {cs map frame work word symbols report totals : List ℕ} (e : block .layers ≡ 0)
+    (g : BlockGiven block cs map frame work word symbols report totals) where
   -- a block with no layer
   single : 2 ^ block .layers ≡ 1
   single = ap (λ (x : ℕ). 2 ^ x) e
 
   -- what its place is given
-  pub at-place : OnePlace block map frame work word symbols report
+  pub at-place : OnePlace block map frame work word symbols report totals
   at-place =
       let s = single in
       let l = g .long in
@@ -438,13 +472,14 @@ module _ {block : BlockAt} {cs map frame work word symbols report : List ℕ} (e
         word-long = g .of-word .long ∙ s;
         symbols-long = g .symbols-long ∙ s;
         report-long = g .report-long ∙ ap (λ (x : ℕ). 64 * x) s;
+        totals-long = g .totals-long ∙ s;
         numbered = record { whole = g .whole; there = omega arith };
       }
 
   -- and what it leaves is the block decoded
-  pub at-leaf : {w s r : List ℕ} → PlaceDecoded block map frame work w s r → WorkDecoded block cs map frame work work w s r 0
-  at-leaf {w} {s} {r} d = record {
-    decoded = subst (λ (x : ℕ). BlockDecoded (withLayers block x) cs map (vectorsFrom x (block .at) (frame ++ work)) w s r 0) (sym e)
-        (one-place block cs map (frame ++ work) w s r (d .word-is) (d .symbols-are) (d .report-is));
+  pub at-leaf : {w s r t : List ℕ} → PlaceDecoded block map frame work w s r t → WorkDecoded block cs map frame work work w s r t 0
+  at-leaf {w} {s} {r} {t} d = record {
+    decoded = subst (λ (x : ℕ). BlockDecoded (withLayers block x) cs map (vectorsFrom x (block .at) (frame ++ work)) w s r t 0) (sym e)
+        (one-place block cs map (frame ++ work) w s r t (d .word-is) (d .symbols-are) (d .report-is) (d .totals-are));
     kept = λ i l. refl;
   }

@@ -1,6 +1,7 @@
 -- What the decoder needs of a frame that is accepted.
 use Prim.Native.Nat.{ℕ, _+_, _*_, _-_, _^_, _≤_}
 use mathlib.Core.List.{List}
+use native.Mathlib.Nat.{le-refl}
 use native.Mathlib.Omega.{arith}
 use lib.Pow.{pow-mono}
 use Rattle.vector.proofs.SliceLaws.{vector-entry}
@@ -21,6 +22,10 @@ module _ {code : Code} {settings : Settings} {frame : List ℕ} {lent : Lent} (t
       let e = vector-entry frame i b s in
       let m = t .is-frame .small (64 * i + b) (omega arith) in
       omega arith
+
+  -- such as that itself
+  pub each-qc : EachAtMost (code .n) (2 ^ settings .qc - 1) frame
+  each-qc = each-most (2 ^ settings .qc - 1) (le-refl (2 ^ settings .qc - 1))
 
   -- so none is above the cap, since Qc is at most Qm
   pub each-cap : EachAtMost (code .n) (capOf (settings .qm)) frame

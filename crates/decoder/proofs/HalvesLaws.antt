@@ -4,20 +4,22 @@ use mathlib.Core.List.{List, _++_}
 use Prim.Native.Nat.{ℕ, suc, _+_, _*_, _-_, _/_, _^_, _≤_, _<_}
 use native.Mathlib.Nat.{suc-mul, mul-add}
 use native.Mathlib.Omega.{arith}
+use lib.Pow.{pow-pos}
 use lib.ListN.{length, getD, take, drop}
-use Rattle.vector.specs.Vector.{vectorAt}
-use Rattle.polar.specs.Tree.{Tree, map3, map4, treeOf, leaves, Place, first, second, at, number}
+use Rattle.vector.specs.Vector.{vectorAt, sumTo}
+use Rattle.polar.specs.Tree.{Tree, map1, map3, map4, treeSum, All, treeOf, leaves, Place, first, second, at, number}
 use Rattle.polar.specs.Halves.{coefsAt}
 use Rattle.polar.specs.Join.{Joined}
 use Rattle.polar.proofs.Numbers.{two-pow}
-use Rattle.polar.proofs.TreeLaws.{number-lt, map3-at, map4-at, ext-at, leaves-at}
-use Rattle.scms.specs.Nodes.{checkNode, variableNode, clippedEntries}
-use Rattle.scms.specs.Halves.{Vectors, frameTree, checkNodes, variableNodes, clippedNodes, decodeTree}
+use Rattle.polar.proofs.TreeLaws.{number-lt, place-of, map1-at, map3-at, map4-at, all-by, all-at, ext-at, leaves-at}
+use Rattle.scms.specs.Nodes.{checkNode, lowered, variableNode, clippedEntries}
+use Rattle.scms.specs.Halves.{Vectors, BlockAnswer, frameTree, checkNodes, variableNodes, clippedNodes, takenNodes, decodeTree}
 use Rattle.scms.proofs.TreeSums.{tree-sum}
 use Rattle.scms.proofs.TreeLists.{frame-at}
 use Rattle.scms.proofs.ByHalves.{same-three}
 use Rattle.decoder.specs.declared.vectors.BlockAt.{BlockAt}
-use Rattle.decoder.specs.Parts.{AreCheckNodes, AreVariableNodes, clippedTo, vectorsFrom, blockAnswer, BlockDecoded}
+use Rattle.decoder.specs.declared.layers.NodeSums.{NodeSums}
+use Rattle.decoder.specs.Parts.{largestNumber, AreCheckNodes, AreVariableNodes, clippedTo, takenTo, vectorsFrom, blockAnswer, TakenFits, BlockDecoded}
 use Rattle.polar.proofs.BlockLaws.{coef-at, joined-leaves}
 use Rattle.vector.proofs.SliceLaws.{vector-first, vector-second, vector-drop}
 
@@ -78,14 +80,24 @@ module _ (p : ℕ) (block : BlockAt) (cs source : List ℕ) where
         h (number q) (number-lt q) ∙ same-four (λ k v w s. variableNode (block .cap) k s v w) (coef-at p (block .start) cs q) (first-at q) (second-at q) (hw q)
         ∙ sym (map4-at (λ k v w s. variableNode (block .cap) k s v w) q H (F .0) (F .1) W))
 
-    -- and their count of clipped entries
+    -- the sum over them of what a function makes of a kernel's coefficient, vectors and symbol
+    node-sum : (f : ℕ → List ℕ → List ℕ → ℕ → ℕ)
+        → sumTo (2 ^ p) (λ t. f (getD cs (block .start + t) 1) (vectorAt source (o + t)) (vectorAt source (o + (2 ^ p + t))) (getD w t 0))
+        ≡ treeSum p (map4 p f H (F .0) (F .1) W)
+    node-sum f =
+        sym (tree-sum p (map4 p f H (F .0) (F .1) W)
+        (λ t. f (getD cs (block .start + t) 1) (vectorAt source (o + t)) (vectorAt source (o + (2 ^ p + t))) (getD w t 0)) (λ q.
+        map4-at f q H (F .0) (F .1) W ∙ sym (same-four f (coef-at p (block .start) cs q) (first-at q) (second-at q) (hw q))))
+
+    -- their count of clipped entries
     clipped-tree : clippedTo block (2 ^ p) cs source w (2 ^ p) ≡ clippedNodes p (block .cap) H (F .0) (F .1) W
     unfolding clippedNodes
-    clipped-tree =
-        sym (tree-sum p (map4 p (λ k v w s. clippedEntries (block .cap) k s v w) H (F .0) (F .1) W)
-        (λ t. clippedEntries (block .cap) (getD cs (block .start + t) 1) (getD w t 0) (vectorAt source (o + t)) (vectorAt source (o + (2 ^ p + t)))) (λ q.
-        map4-at (λ k v w s. clippedEntries (block .cap) k s v w) q H (F .0) (F .1) W
-        ∙ sym (same-four (λ k v w s. clippedEntries (block .cap) k s v w) (coef-at p (block .start) cs q) (first-at q) (second-at q) (hw q))))
+    clipped-tree = node-sum (λ k v w s. clippedEntries (block .cap) k s v w)
+
+    -- and what they took off
+    taken-tree : takenTo block (2 ^ p) cs source w (2 ^ p) ≡ takenNodes p H (F .0) (F .1) W
+    unfolding takenNodes
+    taken-tree = node-sum (λ k v w s. lowered k s v w .taken)
 
 -- a report of two halves, one after the other
 module _ (p : ℕ) (a b : List ℕ) (la : length a ≡ 64 * 2 ^ p) where
@@ -108,54 +120,180 @@ few-more p left clipped right a b c =
     let f : p * (2 ^ p + 2 ^ p) ≡ p * 2 ^ p + p * 2 ^ p = mul-add p (2 ^ p) (2 ^ p) in
     omega arith
 
--- a half of a block: one layer less, its coefficients from s on, its vectors from number `at` on
-abbrev pub halfAt : BlockAt → (layers s at : ℕ) → BlockAt
-halfAt block layers s at = record { layers = layers; start = s; at = at; places = block .places; cap = block .cap }
+-- a half of a block: one layer less, its coefficients from s on, its vectors from number `at` on, and what was taken off
+abbrev pub halfAt : BlockAt → (layers s at taken : ℕ) → BlockAt
+halfAt block layers s at taken = record { layers = layers; start = s; at = at; places = block .places; cap = block .cap; taken = taken }
 
 -- a block with this many layers
 abbrev pub withLayers : BlockAt → ℕ → BlockAt
-withLayers block layers = record { layers = layers; start = block .start; at = block .at; places = block .places; cap = block .cap }
+withLayers block layers = halfAt block layers (block .start) (block .at) (block .taken)
 
--- the step of a block, whose vectors are those of `source` from its number on
+-- what is taken off along the lines of a half: by the layers before, and by the nodes that join it, of which the latter is part of the half's own
+more-off : (p before more : ℕ) (b : Tree ℕ p) → map1 p (λ x. x + (before + more)) b ≡ map1 p (λ x. x + before) (map1 p (λ x. x + more) b)
+more-off p before more b = ext-at p (map1 p (λ x. x + (before + more)) b) (map1 p (λ x. x + before) (map1 p (λ x. x + more) b)) (λ q.
+    let x = at b q in
+    map1-at (λ x. x + (before + more)) q b ∙ omega arith
+    ∙ sym (map1-at (λ x. x + before) q (map1 p (λ x. x + more) b) ∙ ap (λ (y : ℕ). y + before) (map1-at (λ x. x + more) q b)))
+
+-- what a call of `decode_block` left in the buffers that it was lent, and its count
+pub record Left : Type 0 where
+  pub work : List ℕ
+  pub word : List ℕ
+  pub symbols : List ℕ
+  pub report : List ℕ
+  pub totals : List ℕ
+  pub count : ℕ
+
+-- a block's answer is what such a call left
+abbrev pub AnswerLeft : (block : BlockAt) (cs map : List ℕ) → Vectors (block .layers) → Left → Type 0
+AnswerLeft block cs map g a = BlockDecoded block cs map g (a .word) (a .symbols) (a .report) (a .totals) (a .count)
+
+-- a block, whose vectors are those of `source` from its number on, and its halves, which have q layers and h places each
 module _ (block : BlockAt) (cs map source : List ℕ) where
   -- where the coefficients of the next layer begin
   abbrev pub firstStart : ℕ
   firstStart = block .start + block .places / 2
 
-  -- what a block with L layers leaves, from what its halves left, which have q layers and h places each
-  abbrev pub Step : ℕ → ℕ → ℕ → Type 0
-  Step L q h =
-      (ys zs w wA wB after sA sB rA rB : List ℕ) (left clipped right : ℕ)
-      → let next = block .at + (h + h) in
-      AreCheckNodes block h cs source h ys
-      → BlockDecoded (halfAt block q firstStart next) cs (take h map) (vectorsFrom q next ys) wA sA rA left
-      → ((t : ℕ) → t < h → getD w t 0 ≡ getD wA t 0)
-      → AreVariableNodes block h cs source w h zs → clipped ≡ clippedTo block h cs source w h → clipped ≤ 64 * h
-      → BlockDecoded (halfAt block q (firstStart + h / 2) next) cs (drop h map) (vectorsFrom q next zs) wB sB rB right
-      → length rA ≡ 64 * h → length after ≡ 2 ^ L → Joined h (block .start) cs (wA ++ wB) after
-      → BlockDecoded (withLayers block L) cs map (vectorsFrom L (block .at) source) after (sA ++ sB) (rA ++ rB) (left + clipped + right)
+  -- the number from which on the vectors of a half stand
+  abbrev next : (h : ℕ) → ℕ
+  next h = block .at + (h + h)
 
-  -- for L = p + 1 layers
-  pub step : (p : ℕ) → Step (suc p) p (2 ^ p)
-  unfolding decodeTree coefsAt treeOf leaves
-  step p ys zs w wA wB after sA sB rA rB left clipped right checked dA hw variables ec fc dB lr la j =
-      let next = block .at + (2 ^ p + 2 ^ p) in
-      let first = halfAt block p firstStart next in
-      let second = halfAt block p (firstStart + 2 ^ p / 2) next in
-      let hs = H p block cs source in
-      let f = F p block cs source in
-      let A = blockAnswer first cs (take (2 ^ p) map) (checkNodes p hs (f .0) (f .1)) in
-      let eA = subst (λ (g : Vectors p). BlockDecoded first cs (take (2 ^ p) map) g wA sA rA left) (checks-tree p block cs source ys checked) dA in
-      let W = A .word in
-      let hW : (q : Place p) → getD w (number q) 0 ≡ at W q
-      = λ q. hw (number q) (number-lt q) ∙ ap (λ (x : List ℕ). getD x (number q) 0) (eA .word-is) ∙ leaves-at 0 q W in
-      let B = blockAnswer second cs (drop (2 ^ p) map) (variableNodes p (block .cap) hs (f .0) (f .1) W) in
-      let eB = subst (λ (g : Vectors p). BlockDecoded second cs (drop (2 ^ p) map) g wB sB rB right)
-      (variables-tree p block cs source w W hW zs variables) dB in
-      record {
-        word-is = joined-leaves p (block .start) cs wA wB after W (B .word) (eA .word-is) (eB .word-is) la j;
-        symbols-are = ap₂ (λ (x y : List ℕ). x ++ y) (eA .symbols-are) (eB .symbols-are);
-        report-is = λ i. ((report-first p rA rB lr ∙ eA .report-is) i, (report-second p rA rB lr ∙ eB .report-is) i);
-        count-is = same-three (λ (x y z : ℕ). x + y + z) (eA .count-is) (ec ∙ clipped-tree p block cs source w W hW) (eB .count-is);
-        few = few-more p left clipped right (dA .few) fc (dB .few);
-      }
+  -- the first half
+  abbrev pub firstAt : (q h : ℕ) → BlockAt
+  firstAt q h = halfAt block q firstStart (next h) (block .taken)
+
+  -- and the second, the nodes that join the two having taken off `taken`
+  abbrev pub secondAt : (q h taken : ℕ) → BlockAt
+  secondAt q h taken = halfAt block q (firstStart + h / 2) (next h) (block .taken + taken)
+
+  -- what is known after the first half: its vectors stand in ys, its answer is what the call left, and w begins with its word
+  pub record FirstDone (q h : ℕ) (ys w : List ℕ) (a : Left) : Type 0 where
+    pub checked : AreCheckNodes block h cs source h ys
+    pub decoded : AnswerLeft (firstAt q h) cs (take h map) (vectorsFrom q (next h) ys) a
+    pub in-word : (t : ℕ) → t < h → getD w t 0 ≡ getD (a .word) t 0
+
+  -- and after the variable nodes: they stand in zs
+  pub record NodesDone (h : ℕ) (zs w : List ℕ) (sums : NodeSums) : Type 0 where
+    pub nodes : AreVariableNodes block h cs source w h zs
+    pub count-is : sums .count ≡ clippedTo block h cs source w h
+    pub few : sums .count ≤ 64 * h
+    pub taken-is : sums .taken ≡ takenTo block h cs source w h
+
+  -- what a block with L layers leaves, from what its halves left
+  abbrev pub Step : (L q h : ℕ) → Type 0
+  Step L q h =
+      (ys zs w after : List ℕ) (a b : Left) (sums : NodeSums) → FirstDone q h ys w a → NodesDone h zs w sums
+      → AnswerLeft (secondAt q h (sums .taken)) cs (drop h map) (vectorsFrom q (next h) zs) b
+      → length (a .report) ≡ 64 * h → length after ≡ 2 ^ L → Joined h (block .start) cs (a .word ++ b .word) after
+      → BlockDecoded (withLayers block L) cs map (vectorsFrom L (block .at) source) after (a .symbols ++ b .symbols) (a .report ++ b .report)
+      (a .totals ++ b .totals) (a .count + sums .count + b .count)
+
+  -- what is taken off fits in 16 bits: in the first half,
+  abbrev pub FirstFits : (L q h : ℕ) → Type 0
+  FirstFits L q h =
+      TakenFits (withLayers block L) cs map source → (ys : List ℕ) → AreCheckNodes block h cs source h ys → TakenFits (firstAt q h) cs (take h map) ys
+
+  -- in the nodes that join the halves,
+  abbrev pub NodesFit : (L q h : ℕ) → Type 0
+  NodesFit L q h =
+      TakenFits (withLayers block L) cs map source → (ys w : List ℕ) (a : Left) → FirstDone q h ys w a
+      → block .taken + takenTo block h cs source w h ≤ largestNumber
+
+  -- and in the second half
+  abbrev pub SecondFits : (L q h : ℕ) → Type 0
+  SecondFits L q h =
+      TakenFits (withLayers block L) cs map source → (ys zs w : List ℕ) (a : Left) (sums : NodeSums) → FirstDone q h ys w a → NodesDone h zs w sums
+      → TakenFits (secondAt q h (sums .taken)) cs (drop h map) zs
+
+  -- all of these for L = p + 1 layers
+  module _ (p : ℕ) where
+    -- the coefficients of the kernels that join the halves
+    abbrev hs : Tree ℕ p
+    hs = H p block cs source
+
+    -- the block's vectors
+    abbrev f : Vectors (suc p)
+    f = F p block cs source
+
+    -- the first half's answer
+    abbrev A : BlockAnswer p
+    A = blockAnswer (firstAt p (2 ^ p)) cs (take (2 ^ p) map) (checkNodes p hs (f .0) (f .1))
+
+    -- the vectors of the second half
+    abbrev variables : Vectors p
+    variables = variableNodes p (block .cap) hs (f .0) (f .1) (A .word)
+
+    -- what the nodes that make them took off
+    abbrev off : ℕ
+    off = takenNodes p hs (f .0) (f .1) (A .word)
+
+    -- and the second half's answer
+    abbrev B : BlockAnswer p
+    B = blockAnswer (secondAt p (2 ^ p) 0) cs (drop (2 ^ p) map) variables
+
+    module _ (ys w : List ℕ) (a : Left) (d : FirstDone p (2 ^ p) ys w a) where
+      -- what the first half left, from its vectors as a tree
+      by-checks : AnswerLeft (firstAt p (2 ^ p)) cs (take (2 ^ p) map) (checkNodes p hs (f .0) (f .1)) a
+      by-checks =
+          subst (λ (g : Vectors p). AnswerLeft (firstAt p (2 ^ p)) cs (take (2 ^ p) map) g a) (checks-tree p block cs source ys (d .checked)) (d .decoded)
+
+      -- the symbols that the variable nodes are given are those of its word
+      word-at : (q : Place p) → getD w (number q) 0 ≡ at (A .word) q
+      word-at q = d .in-word (number q) (number-lt q) ∙ ap (λ (x : List ℕ). getD x (number q) 0) (by-checks .word-is) ∙ leaves-at 0 q (A .word)
+
+      -- and what the nodes took off
+      off-is : takenTo block (2 ^ p) cs source w (2 ^ p) ≡ off
+      off-is = taken-tree p block cs source w (A .word) word-at
+
+      -- the vectors of the second half, as a tree
+      variables-are : (zs : List ℕ) (sums : NodeSums) → NodesDone (2 ^ p) zs w sums → vectorsFrom p (next (2 ^ p)) zs ≡ variables
+      variables-are zs sums v = variables-tree p block cs source w (A .word) word-at zs (v .nodes)
+
+    -- the step
+    pub step : Step (suc p) p (2 ^ p)
+    unfolding decodeTree coefsAt treeOf leaves map1
+    step ys zs w after a b sums d v s lr la j =
+        let eA = by-checks ys w a d in
+        let eB = subst (λ (g : Vectors p). AnswerLeft (secondAt p (2 ^ p) (sums .taken)) cs (drop (2 ^ p) map) g b) (variables-are ys w a d zs sums v) s in
+        record {
+          word-is = joined-leaves p (block .start) cs (a .word) (b .word) after (A .word) (B .word) (eA .word-is) (eB .word-is) la j;
+          symbols-are = ap₂ (λ (x y : List ℕ). x ++ y) (eA .symbols-are) (eB .symbols-are);
+          report-is = λ i. ((report-first p (a .report) (b .report) lr ∙ eA .report-is) i, (report-second p (a .report) (b .report) lr ∙ eB .report-is) i);
+          totals-are = ap₂ (λ (x y : List ℕ). x ++ y) (eA .totals-are)
+              (eB .totals-are
+              ∙ ap (leaves p) (ap (λ (x : ℕ). map1 p (λ y. y + (block .taken + x)) (B .taken)) (v .taken-is ∙ off-is ys w a d) ∙ more-off p (block .taken) off (B .taken)));
+          count-is = same-three (λ (x y z : ℕ). x + y + z) (eA .count-is)
+              (v .count-is ∙ clipped-tree p block cs source w (A .word) (word-at ys w a d)) (eB .count-is);
+          few = few-more p (a .count) (sums .count) (b .count) (eA .few) (v .few) (eB .few);
+        }
+
+    -- the first half
+    pub first-fits : FirstFits (suc p) p (2 ^ p)
+    unfolding decodeTree coefsAt treeOf All
+    first-fits fits ys checked =
+        subst (λ (g : Vectors p). All p (λ x. x + block .taken ≤ largestNumber) (blockAnswer (firstAt p (2 ^ p)) cs (take (2 ^ p) map) g .taken))
+        (sym (checks-tree p block cs source ys checked)) (fits .0)
+
+    -- a place of the second half
+    place-fits : TakenFits (withLayers block (suc p)) cs map source → (q : Place p) → at (B .taken) q + (block .taken + off) ≤ largestNumber
+    unfolding decodeTree coefsAt treeOf All
+    place-fits fits q =
+        let x = all-at (λ x. x + block .taken ≤ largestNumber) q (map1 p (λ x. x + off) (B .taken)) (fits .1) in
+        let e = map1-at (λ x. x + off) q (B .taken) in
+        omega arith
+
+    -- the nodes
+    pub nodes-fit : NodesFit (suc p) p (2 ^ p)
+    nodes-fit fits ys w a d =
+        let x = place-fits fits (place-of p 0 (pow-pos p) .0) in
+        let e = off-is ys w a d in
+        omega arith
+
+    -- the second half
+    pub second-fits : SecondFits (suc p) p (2 ^ p)
+    second-fits fits ys zs w a sums d v =
+        let Fit : ℕ → Type 0 = λ x. x + (block .taken + sums .taken) ≤ largestNumber in
+        subst (λ (g : Vectors p). All p Fit (blockAnswer (secondAt p (2 ^ p) (sums .taken)) cs (drop (2 ^ p) map) g .taken))
+        (sym (variables-are ys w a d zs sums v))
+        (all-by Fit p (B .taken) (λ q.
+        subst (λ (y : ℕ). at (B .taken) q + (block .taken + y) ≤ largestNumber) (sym (v .taken-is ∙ off-is ys w a d)) (place-fits fits q)))

@@ -14,7 +14,7 @@ use Rattle.decoder.specs.declared.vectors.BlockAt.{BlockAt}
 
 -- a block from what the loops go by: where its kernels' coefficients begin, and the number of its first vector
 abbrev pub blockFrom : (start at : ℕ) → BlockAt
-blockFrom start at = record { layers = 0; start = start; at = at; places = 0; cap = 0 }
+blockFrom start at = record { layers = 0; start = start; at = at; places = 0; cap = 0; taken = 0 }
 
 -- the vectors g 0, g 1, .., g (t − 1) stand after the block's, and what was before them is as it was
 pub record StoredNodes (at half : ℕ) (frame work : List ℕ) (g : ℕ → List ℕ) (after : List ℕ) (t : ℕ) : Type 0 where

@@ -1,10 +1,10 @@
 -- What `decode` promises.
-use Prim.Native.Nat.{ℕ, _*_, _^_, _<_}
+use Prim.Native.Nat.{ℕ, _*_, _-_, _/_, _^_, _≤_, _<_}
 use mathlib.Core.Path.{_≡_}
 use mathlib.Core.Bool.{cond}
 use mathlib.Core.List.{List, [], _∷_}
 use lib.Dec.{eqb}
-use lib.ListN.{replicate}
+use lib.ListN.{getD, take, replicate}
 use Rattle.refusal.specs.Returned.{Returned}
 use Rattle.vector.specs.Vector.{vectorAt}
 use Rattle.polar_code.specs.Code.{Code}
@@ -51,26 +51,38 @@ module _ (code : Code) (settings : Settings) (frame : List ℕ) (lent : Lent) wh
   unfoldable pub decodeReport : List ℕ
   decodeReport = either (scms.report code mode frame) (lent .report)
 
+  -- the buffer for the totals: for each place, what was taken off along its line
+  unfoldable pub decodeTotals : List ℕ
+  decodeTotals = either (scms.totals code mode frame) (lent .totals)
+
   -- the work buffer: all zeros
   unfoldable pub decodeWork : List ℕ
   decodeWork = either (replicate (65 * 2 ^ code .n) 0) (lent .work)
 
   -- The promise, for every input. First the answer r and the lent buffers at exit; the frame, the map and the
   -- coefficients are lent to be read only. Then, where the call is accepted, the same without the cases: the count
-  -- answered, the symbols, and what the report holds for each place. Then what holds of these: the count is 0 exactly
-  -- where the frame is unclipped, and always with Qm = 13; in an unclipped frame what is held for a value is a least
-  -- total, less the least of the 64; clipped or not, each decision; and in an unclipped frame, where all frozen places
-  -- come first, no word of the code has a smaller total than the word decided
+  -- answered, the symbols, what the report holds for each place, and the totals. Then what holds of these: the count is
+  -- 0 exactly where the frame is unclipped, and always with Qm = 13; clipped or not, the number of place 0 in the totals
+  -- is 0, none exceeds n × (2^Qc − 1) × 2^(n−1), which is at most 31,744, and each decision; in an unclipped frame a
+  -- place's number in the totals is the least total of the row decided before it, and with what is held for a value that
+  -- of the row followed by the value; and in an unclipped frame, where all frozen places come first, no word of the code
+  -- has a smaller total than the word decided
   pub record Decoded (after : Lent) (r : Answer) : Type 0 where
     pub answer : returned r ≡ decodeAnswer
     pub symbols-are : after .symbols ≡ decodeSymbols
     pub report-is : after .report ≡ decodeReport
+    pub totals-are : after .totals ≡ decodeTotals
     pub work-is : after .work ≡ decodeWork
     pub counted : Accepted → returned r ≡ record { number = 0; values = scms.count code mode frame ∷ [] }
     pub decided : Accepted → after .symbols ≡ scms.symbols code mode frame
     pub reported : Accepted → (i : ℕ) → i < 2 ^ code .n → vectorAt (after .report) i ≡ scms.held code mode frame i
+    pub totalled : Accepted → after .totals ≡ scms.totals code mode frame
     pub count-zero : Accepted → CountZero code mode frame
     pub none-clipped : Accepted → settings .qm ≡ 13 → scms.count code mode frame ≡ 0
-    pub least-totals : Accepted → Unclipped code mode frame → (i : ℕ) → i < 2 ^ code .n → LeastTotals code mode frame i
+    pub first-total : Accepted → getD (after .totals) 0 0 ≡ 0
+    pub totals-fit : Accepted → (i : ℕ) → i < 2 ^ code .n
+        → getD (after .totals) i 0 ≤ code .n * ((2 ^ settings .qc - 1) * (2 ^ code .n / 2))
+    pub least-totals : Accepted → Unclipped code mode frame → (i : ℕ) → i < 2 ^ code .n
+        → LeastTotals code frame (take i (after .symbols)) (getD (after .totals) i 0) (vectorAt (after .report) i)
     pub decisions : Accepted → (i : ℕ) → i < 2 ^ code .n → Decided code mode frame i
     pub best-word : Accepted → Unclipped code mode frame → FrozenFirst code → BestWord code mode frame

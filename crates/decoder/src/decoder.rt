@@ -28,9 +28,10 @@ fn clear(s: &mut [u16])
 
 // Decodes a frame: 64 penalties of at most 2^qc - 1, a 0 among them, for each of the N = 2^n places, by the code with n
 // layers, this map and these coefficients, at the internal precision qm. Answers the count of clipped entries, with the
-// symbols of the N places and the report (the 64 penalties held for each place when it was decided) in the buffers lent
-// for them, and the work buffer, of 65 N numbers, all zeros; or the lowest refusal of 1, 2, 3, 4, 5, 6, 8 and 9 that
-// fits, and every buffer as it came.
+// symbols of the N places, the report (the 64 penalties held for each place when it was decided) and the totals (for
+// each place what was taken off along its line: in an unclipped frame the least total of all words that begin with the
+// symbols decided before it) in the buffers lent for them, and the work buffer, of 65 N numbers, all zeros; or the
+// lowest refusal of 1, 2, 3, 4, 5, 6, 8 and 9 that fits, and every buffer as it came.
 pub fn decode(
     n: usize,
     map: &[u8],
@@ -41,10 +42,11 @@ pub fn decode(
     work: &mut [u16],
     symbols: &mut [u8],
     report: &mut [u16],
+    totals: &mut [u16],
 ) -> Answer
     ensures { λ r. ⌜ Decoded (codeOf n (now (map .entry)) (now (coefs .entry))) (settingsOf qc qm) (now (frame .entry))
-        (lentOf (now (work .entry)) (now (symbols .entry)) (now (report .entry)))
-        (lentOf (now (work .exit)) (now (symbols .exit)) (now (report .exit))) r ⌝ }
+        (lentOf (now (work .entry)) (now (symbols .entry)) (now (report .entry)) (now (totals .entry)))
+        (lentOf (now (work .exit)) (now (symbols .exit)) (now (report .exit)) (now (totals .exit))) r ⌝ }
 {
     let refused = decoder_refusal::decode_refusal(
         n,
@@ -56,6 +58,7 @@ pub fn decode(
         work,
         symbols,
         report,
+        totals,
     );
     if refused != 0 {
         return Answer::Refused(refused);
@@ -69,6 +72,7 @@ pub fn decode(
         at: 0,
         places: size,
         cap: vector::largest(qm),
+        taken: 0,
     };
     let count = decode_block(
         whole,
@@ -79,6 +83,7 @@ pub fn decode(
         &mut word[..size],
         symbols,
         report,
+        totals,
     );
     clear(work);
     Answer::Count(count)

@@ -5,9 +5,10 @@ use crate::vectors::BlockAt;
 use crate::vectors::load_vector;
 use crate::vectors::vector_of;
 ghost use Prim.Native.Nat.{_*_, _≤_};
+ghost use mathlib.Core.List.{_++_};
 ghost use lib.ListN.{length};
 ghost use Rattle.decoder.specs.Parts.{KernelsGiven, CheckNodesWritten};
-ghost use Rattle.decoder.specs.Parts.{LayerGiven, FirstSymbols, OrderedGiven, VariableNodesWritten};
+ghost use Rattle.decoder.specs.Parts.{LayerGiven, FirstSymbols, OrderedGiven, SumFits, VariableNodesWritten};
 
 // The check nodes of a block's kernels. Phi's vectors are put in the order of c for them, and kept so in
 // `room` for the variable nodes.
@@ -40,8 +41,16 @@ pub(crate) fn check_nodes(
     }
 }
 
+// What the variable nodes of a block's kernels give beside their vectors.
+pub(crate) struct NodeSums {
+    // The count of their clipped entries.
+    pub count: u32,
+    // What they took off, all kernels counted.
+    pub taken: u16,
+}
+
 // The variable nodes of a block's kernels, with the symbols decided in its first half and phi's vectors in the order of
-// c; returns the count of their clipped entries.
+// c.
 pub(crate) fn variable_nodes(
     block: BlockAt,
     half: usize,
@@ -49,9 +58,9 @@ pub(crate) fn variable_nodes(
     frame: &[u16],
     work: &mut [u16],
     room: &[u16],
-) -> u32
+) -> NodeSums
     requires { ⌜ LayerGiven block half (now frame) (now work) × FirstSymbols half (now word)
-        × OrderedGiven half (now room) ⌝ }
+        × OrderedGiven half (now room) × SumFits (block .at) half (now word) (now frame ++ now work) (now room) ⌝ }
     ensures { λ r. ⌜ VariableNodesWritten block half (now (word .entry)) (now (frame .entry)) (now (work .entry))
         (now (room .entry)) (now (work .exit)) r ⌝ }
 {
@@ -60,6 +69,7 @@ pub(crate) fn variable_nodes(
     let cap = block.cap;
     let to = at + (half + half) - places;
     let mut count: u32 = 0;
+    let mut taken: u16 = 0;
     let mut t: usize = 0;
     while t < half {
         let theta = load_vector(places, frame, work, at + t);
@@ -68,7 +78,8 @@ pub(crate) fn variable_nodes(
         let llrs = r.llrs;
         vector::store(&llrs, to + t, work);
         count += r.count;
+        taken += r.taken;
         t += 1;
     }
-    count
+    NodeSums { count, taken }
 }

@@ -266,9 +266,12 @@ module _ (code : Code) (settings : Settings) (frame : List ℕ) (lent : Lent) wh
       record {
         is-code = rows-code code (by-size .0, (by-size .1 .0, (by-size .1 .1 .0, tt))) (bytes .0, (bytes .1 .0, (bytes .1 .1 .0, tt)));
         frame-long = long;
-        work-long = false-equal (length (lent .work)) (65 * size) (rooms .1 .0);
-        symbols-long = false-equal (length (lent .symbols)) size (rooms .1 .1 .0);
-        report-long = false-equal (length (lent .report)) (64 * size) (rooms .1 .1 .1 .0);
+        buffers = record {
+          work-long = false-equal (length (lent .work)) (65 * size) (rooms .1 .0);
+          symbols-long = false-equal (length (lent .symbols)) size (rooms .1 .1 .0);
+          report-long = false-equal (length (lent .report)) (64 * size) (rooms .1 .1 .1 .0);
+          totals-long = false-equal (length (lent .totals)) size (rooms .1 .1 .1 .1 .0);
+        };
         channel-precision = inside-within 1 5 qc (by-content .0);
         internal-precision = inside-within qc 13 (settings .qm) (by-content .1 .0);
         is-frame = frame-of-rows qc size frame (let most : length frame / 64 ≤ size = omega arith in most) (bytes .1 .1 .1 .0) (bytes .1 .1 .1 .1 .0);
@@ -281,16 +284,17 @@ module _ (code : Code) (settings : Settings) (frame : List ℕ) (lent : Lent) wh
       let qc = settings .qc in
       let by-size = code-sizes code (t .is-code) in
       let frame-room = equal-false (length frame) (64 * size) (t .frame-long) in
-      let work-room = equal-false (length (lent .work)) (65 * size) (t .work-long) in
-      let symbols-room = equal-false (length (lent .symbols)) size (t .symbols-long) in
-      let report-room = equal-false (length (lent .report)) (64 * size) (t .report-long) in
+      let work-room = equal-false (length (lent .work)) (65 * size) (t .buffers .work-long) in
+      let symbols-room = equal-false (length (lent .symbols)) size (t .buffers .symbols-long) in
+      let report-room = equal-false (length (lent .report)) (64 * size) (t .buffers .report-long) in
+      let totals-room = equal-false (length (lent .totals)) size (t .buffers .totals-long) in
       let qc-fits = within-inside 1 5 qc (t .channel-precision) in
       let qm-fits = within-inside qc 13 (settings .qm) (t .internal-precision) in
       let bytes = code-bytes code (t .is-code) in
       let small = small-frame qc frame (t .is-frame) in
       let zeros = zeros-frame qc frame (t .is-frame) size (let long = t .frame-long in omega arith) in
       both-accepted sizes contents
-      (by-size .0, (by-size .1 .0, (by-size .1 .1 .0, (frame-room, (work-room, (symbols-room, (report-room, tt)))))))
+      (by-size .0, (by-size .1 .0, (by-size .1 .1 .0, (frame-room, (work-room, (symbols-room, (report-room, (totals-room, tt))))))))
       (qc-fits, (qm-fits, (bytes .0, (bytes .1 .0, (bytes .1 .1 .0, (small, (zeros, tt)))))))
 
   -- a code is not refused by 1, 4, 5 or 6, whatever else the call is given
@@ -301,6 +305,6 @@ module _ (code : Code) (settings : Settings) (frame : List ℕ) (lent : Lent) wh
       let bytes = code-bytes code c in
       let others : List ℕ = 2 ∷ 3 ∷ 8 ∷ 9 ∷ [] in
       let table = decodeTable code settings frame lent in
-      let on-bytes : Among others (drop 9 table) = (inl (bytes .0), (inl (bytes .1 .0), (inl (bytes .1 .1 .0), (inr tt, (inr tt, tt))))) in
-      let on-rest : Among others (drop 4 table) = (inr tt, (inr tt, (inr tt, (inr tt, (inr tt, on-bytes))))) in
+      let on-bytes : Among others (drop 10 table) = (inl (bytes .0), (inl (bytes .1 .0), (inl (bytes .1 .1 .0), (inr tt, (inr tt, tt))))) in
+      let on-rest : Among others (drop 4 table) = (inr tt, (inr tt, (inr tt, (inr tt, (inr tt, (inr tt, on-bytes)))))) in
       refusal-among others table (inl (by-size .0), (inr tt, (inr tt, (inr tt, on-rest))))

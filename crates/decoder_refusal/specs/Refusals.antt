@@ -56,10 +56,11 @@ pub record Lent : Type 0 where
   pub work : List ℕ
   pub symbols : List ℕ
   pub report : List ℕ
+  pub totals : List ℕ
 
 -- those buffers
-abbrev pub lentOf : (work symbols report : List ℕ) → Lent
-lentOf work symbols report = record { work = work; symbols = symbols; report = report }
+abbrev pub lentOf : (work symbols report totals : List ℕ) → Lent
+lentOf work symbols report totals = record { work = work; symbols = symbols; report = report; totals = totals }
 
 -- the rows on the lengths of the frame and of the buffers, for this many places
 abbrev pub bufferRows : (places : ℕ) (frame : List ℕ) → Lent → List Row
@@ -68,7 +69,15 @@ bufferRows places frame lent =
     ∷ lengthRow (length (lent .work)) (65 * places)
     ∷ lengthRow (length (lent .symbols)) places
     ∷ lengthRow (length (lent .report)) (64 * places)
+    ∷ lengthRow (length (lent .totals)) places
     ∷ []
+
+-- the buffers have the lengths that this many places need
+pub record BuffersFit (places : ℕ) (lent : Lent) : Type 0 where
+  pub work-long : length (lent .work) ≡ 65 * places
+  pub symbols-long : length (lent .symbols) ≡ places
+  pub report-long : length (lent .report) ≡ 64 * places
+  pub totals-long : length (lent .totals) ≡ places
 
 -- the rows of document 01's table that `decode` has the input for, in its order: first those on n and the lengths
 abbrev pub sizeTable : Code → (frame : List ℕ) → Lent → List Row
@@ -100,9 +109,7 @@ module _ (code : Code) (settings : Settings) (frame : List ℕ) (lent : Lent) wh
   pub record Decodable : Type 0 where
     pub is-code : IsCode code
     pub frame-long : length frame ≡ 64 * 2 ^ code .n
-    pub work-long : length (lent .work) ≡ 65 * 2 ^ code .n
-    pub symbols-long : length (lent .symbols) ≡ 2 ^ code .n
-    pub report-long : length (lent .report) ≡ 64 * 2 ^ code .n
+    pub buffers : BuffersFit (2 ^ code .n) lent
     pub channel-precision : Within 1 5 (settings .qc)
     pub internal-precision : Within (settings .qc) 13 (settings .qm)
     pub is-frame : IsFrame (settings .qc) frame

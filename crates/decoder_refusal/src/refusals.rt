@@ -68,16 +68,18 @@ fn size_refusal(
     work: &[u16],
     symbols: &[u8],
     report: &[u16],
+    totals: &[u16],
 ) -> u8
     ensures { λ r. ⌜ r ≡ refusalOf (sizeTable (codeOf n (now (map .entry)) (now (coefs .entry))) (now (frame .entry))
-        (lentOf (now (work .entry)) (now (symbols .entry)) (now (report .entry)))) ⌝ }
+        (lentOf (now (work .entry)) (now (symbols .entry)) (now (report .entry)) (now (totals .entry)))) ⌝ }
 {
     let size = polar_code::place_count(n);
     let r = polar_code::size_refusal(n, map, coefs);
     let r = refusal::first(r, 2, frame.len() != 64 * size);
     let r = refusal::first(r, 2, work.len() != 65 * size);
     let r = refusal::first(r, 2, symbols.len() != size);
-    refusal::first(r, 2, report.len() != 64 * size)
+    let r = refusal::first(r, 2, report.len() != 64 * size);
+    refusal::first(r, 2, totals.len() != size)
 }
 
 // The refusal by the precisions and by what the map, the coefficients and the frame hold, 0 where none of them is
@@ -103,11 +105,13 @@ pub fn decode_refusal(
     work: &[u16],
     symbols: &[u8],
     report: &[u16],
+    totals: &[u16],
 ) -> u8
     ensures { λ r. ⌜ r ≡ decodeRefusal (codeOf n (now (map .entry)) (now (coefs .entry))) (settingsOf qc qm)
-        (now (frame .entry)) (lentOf (now (work .entry)) (now (symbols .entry)) (now (report .entry))) ⌝ }
+        (now (frame .entry))
+        (lentOf (now (work .entry)) (now (symbols .entry)) (now (report .entry)) (now (totals .entry))) ⌝ }
 {
-    let refused = size_refusal(n, map, coefs, frame, work, symbols, report);
+    let refused = size_refusal(n, map, coefs, frame, work, symbols, report, totals);
     if refused != 0 {
         return refused;
     }

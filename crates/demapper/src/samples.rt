@@ -113,5 +113,6 @@ pub(crate) fn symbol_llrs(
 {
     let raw = raw_llrs(chips, samples);
     let low = vector::subtract_least(&raw);
-    quantise(&low, top, bottom, qc)
+    let rest = low.rest;
+    quantise(&rest, top, bottom, qc)
 }

@@ -11,7 +11,7 @@ use Rattle.refusal.specs.Rows.{lengthRow, symbolsRow}
 use Rattle.polar_code.specs.Code.{messagePlaces, codeSizes}
 use Rattle.ccsk.specs.Chips.{baseRow}
 use Rattle.demapper.specs.Demap.{gainRow}
-use Rattle.decoder_refusal.specs.Refusals.{Lent, lentOf, codeRows, bufferRows}
+use Rattle.decoder_refusal.specs.Refusals.{Lent, lentOf, codeRows, bufferRows, BuffersFit}
 use Rattle.link.specs.Noiseless.{Transmission, Reception, ChainInput}
 
 -- 19: the amplitude is outside 1 to 127. Document 01 has no number for it; this one is document 02's (request 14) for
@@ -28,9 +28,9 @@ pub record TripLent : Type 0 where
   pub decoded : List ℕ
 
 -- those buffers
-abbrev pub tripLentOf : (samples : List ℤ) (frame work symbols report decoded : List ℕ) → TripLent
-tripLentOf samples frame work symbols report decoded =
-    record { samples = samples; frame = frame; decoder = lentOf work symbols report; decoded = decoded }
+abbrev pub tripLentOf : (samples : List ℤ) (frame work symbols report totals decoded : List ℕ) → TripLent
+tripLentOf samples frame work symbols report totals decoded =
+    record { samples = samples; frame = frame; decoder = lentOf work symbols report totals; decoded = decoded }
 
 -- the rows on the lengths of the message and of the buffers, for this many places
 abbrev pub tripRows : (places : ℕ) → Transmission → TripLent → List Row
@@ -70,7 +70,5 @@ module _ (s : Transmission) (r : Reception) (lent : TripLent) where
     pub chain : ChainInput s r
     pub samples-long : length (lent .samples) ≡ 64 * 2 ^ s .code .n
     pub frame-long : length (lent .frame) ≡ 64 * 2 ^ s .code .n
-    pub work-long : length (lent .decoder .work) ≡ 65 * 2 ^ s .code .n
-    pub symbols-long : length (lent .decoder .symbols) ≡ 2 ^ s .code .n
-    pub report-long : length (lent .decoder .report) ≡ 64 * 2 ^ s .code .n
+    pub buffers : BuffersFit (2 ^ s .code .n) (lent .decoder)
     pub decoded-long : length (lent .decoded) ≡ messagePlaces (s .code .map)

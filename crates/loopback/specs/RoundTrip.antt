@@ -58,13 +58,17 @@ module _ (s : Transmission) (r : Reception) (lent : TripLent) where
   unfoldable pub tripReport : List ℕ
   tripReport = either (scms.report (s .code) mode (messageFrame s r)) (lent .decoder .report)
 
+  -- the buffer for the totals: for each place, what was taken off along its line
+  unfoldable pub tripTotals : List ℕ
+  tripTotals = either (scms.totals (s .code) mode (messageFrame s r)) (lent .decoder .totals)
+
   -- the buffer for the decoded message: the symbols decided at the message places, in rising order
   unfoldable pub tripDecoded : List ℕ
   tripDecoded = either (messageOf (s .code .map) (messageSymbols s r)) (lent .decoded)
 
   -- The promise, for every input. First the answer and the lent buffers at exit; the map, the coefficients and the
-  -- message are lent to be read only. Then, where the call is accepted: answer, symbols, report and work buffer are
-  -- those of one call of `decode` on the frame at exit, with all that it promises of them; and, where the premise of
+  -- message are lent to be read only. Then, where the call is accepted: answer, symbols, report, totals and work buffer
+  -- are those of one call of `decode` on the frame at exit, with all that it promises of them; and, where the premise of
   -- the noiseless statement holds, the symbols are the word before the transform and the decoded message is the message
   pub record RoundTrip (after : TripLent) (a : Answer) : Type 0 where
     pub answer : returned a ≡ tripAnswer
@@ -73,6 +77,7 @@ module _ (s : Transmission) (r : Reception) (lent : TripLent) where
     pub work-is : after .decoder .work ≡ tripWork
     pub symbols-are : after .decoder .symbols ≡ tripSymbols
     pub report-is : after .decoder .report ≡ tripReport
+    pub totals-are : after .decoder .totals ≡ tripTotals
     pub decoded-is : after .decoded ≡ tripDecoded
     pub decoder : Accepted → Decoded (s .code) (r .settings) (after .frame) (lent .decoder) (after .decoder) a
     pub word-back : Accepted → NoiselessPremise s r → after .decoder .symbols ≡ wordBefore (s .code .map) (s .message)

@@ -15,12 +15,13 @@ fn size_refusal(
     work: &[u16],
     symbols: &[u8],
     report: &[u16],
+    totals: &[u16],
     decoded: &[u8],
 ) -> u8
     ensures { λ r. ⌜ r ≡ refusalOf (sizeTable
         (transmissionOf n (now (map .entry)) (now (coefs .entry)) (now (message .entry)) 0 0)
         (tripLentOf (now (samples .entry)) (now (frame .entry)) (now (work .entry)) (now (symbols .entry))
-        (now (report .entry)) (now (decoded .entry)))) ⌝ }
+        (now (report .entry)) (now (totals .entry)) (now (decoded .entry)))) ⌝ }
 {
     let size = polar_code::place_count(n);
     let places = polar_code::message_places(map);
@@ -31,6 +32,7 @@ fn size_refusal(
     let r = refusal::first(r, 2, work.len() != 65 * size);
     let r = refusal::first(r, 2, symbols.len() != size);
     let r = refusal::first(r, 2, report.len() != 64 * size);
+    let r = refusal::first(r, 2, totals.len() != size);
     refusal::first(r, 2, decoded.len() != places)
 }
 
@@ -79,13 +81,14 @@ pub(crate) fn trip_refusal(
     work: &[u16],
     symbols: &[u8],
     report: &[u16],
+    totals: &[u16],
     decoded: &[u8],
 ) -> u8
     ensures { λ r. ⌜ r ≡ tripRefusal
         (transmissionOf n (now (map .entry)) (now (coefs .entry)) (now (message .entry)) base amplitude)
         (receptionOf top bottom qc qm)
         (tripLentOf (now (samples .entry)) (now (frame .entry)) (now (work .entry)) (now (symbols .entry))
-        (now (report .entry)) (now (decoded .entry))) ⌝ }
+        (now (report .entry)) (now (totals .entry)) (now (decoded .entry))) ⌝ }
 {
     let refused = size_refusal(
         n,
@@ -97,6 +100,7 @@ pub(crate) fn trip_refusal(
         work,
         symbols,
         report,
+        totals,
         decoded,
     );
     if refused != 0 {

@@ -5,7 +5,7 @@ use mathlib.Core.List.{List, _++_}
 use lib.ListN.{length, getD}
 use Rattle.vector.specs.Vector.{vectorAt, joined}
 use Rattle.polar_code.specs.Code.{Code}
-use Rattle.decoder_refusal.specs.Refusals.{Lent}
+use Rattle.decoder_refusal.specs.Refusals.{Lent, BuffersFit}
 use Rattle.listing.specs.Listing.{placeLine, numberLine}
 use Rattle.program_listing.specs.Listing.{listingLength, Listable}
 
@@ -31,9 +31,7 @@ pub record Listing (symbols report output : List ℕ) : Type 0 where
 -- what `list_decoded` is given: an input that is accepted, and the decoder's buffers of the right lengths
 pub record Decoding (code : Code) (frame output : List ℕ) (lent : Lent) : Type 0 where
   pub listable : Listable code frame output
-  pub work-long : length (lent .work) ≡ 65 * 2 ^ code .n
-  pub symbols-long : length (lent .symbols) ≡ 2 ^ code .n
-  pub report-long : length (lent .report) ≡ 64 * 2 ^ code .n
+  pub buffers : BuffersFit (2 ^ code .n) lent
 
 -- what `list_in_parts` is given: the same with buffers that have room for the longest word
 pub record Roomy (code : Code) (frame output : List ℕ) (lent : Lent) : Type 0 where
@@ -41,3 +39,4 @@ pub record Roomy (code : Code) (frame output : List ℕ) (lent : Lent) : Type 0 
   pub work-room : length (lent .work) ≡ longestWork
   pub symbols-room : length (lent .symbols) ≡ 256
   pub report-room : length (lent .report) ≡ longestReport
+  pub totals-room : length (lent .totals) ≡ 256

@@ -36,18 +36,19 @@ fn list_decoded(
     work: &mut [u16],
     symbols: &mut [u8],
     report: &mut [u16],
+    totals: &mut [u16],
     output: &mut [u8],
 )
     requires { ⌜ Decoding (codeOf n (now map) (now coefs)) (now frame) (now output)
-        (lentOf (now work) (now symbols) (now report)) ⌝ }
+        (lentOf (now work) (now symbols) (now report) (now totals)) ⌝ }
     ensures { λ _. ⌜ now (output .exit)
         ≡ programListing (codeOf n (now (map .entry)) (now (coefs .entry))) (now (frame .entry)) ⌝ }
 {
-    let answer = decoder::decode(n, map, coefs, 5, 13, frame, work, symbols, report);
+    let answer = decoder::decode(n, map, coefs, 5, 13, frame, work, symbols, report, totals);
     write_listing(symbols, report, count_of(answer), output);
 }
 
-// The same with the starts of three buffers that have room for the longest word.
+// The same with the starts of four buffers that have room for the longest word.
 fn list_in_parts(
     n: usize,
     map: &[u8],
@@ -56,10 +57,11 @@ fn list_in_parts(
     work: &mut [u16],
     symbols: &mut [u8],
     report: &mut [u16],
+    totals: &mut [u16],
     output: &mut [u8],
 )
     requires { ⌜ Roomy (codeOf n (now map) (now coefs)) (now frame) (now output)
-        (lentOf (now work) (now symbols) (now report)) ⌝ }
+        (lentOf (now work) (now symbols) (now report) (now totals)) ⌝ }
     ensures { λ _. ⌜ now (output .exit)
         ≡ programListing (codeOf n (now (map .entry)) (now (coefs .entry))) (now (frame .entry)) ⌝ }
 {
@@ -74,6 +76,7 @@ fn list_in_parts(
         &mut work[..work_size],
         &mut symbols[..size],
         &mut report[..report_size],
+        &mut totals[..size],
         output,
     );
 }
@@ -87,6 +90,7 @@ fn list_frame(n: usize, map: &[u8], coefs: &[u8], frame: &[u16], output: &mut [u
     let mut work = [0u16; LONGEST_WORK];
     let mut symbols = [0u8; 256];
     let mut report = [0u16; LONGEST_REPORT];
+    let mut totals = [0u16; 256];
     list_in_parts(
         n,
         map,
@@ -95,6 +99,7 @@ fn list_frame(n: usize, map: &[u8], coefs: &[u8], frame: &[u16], output: &mut [u
         &mut work,
         &mut symbols,
         &mut report,
+        &mut totals,
         output,
     );
 }

@@ -25,19 +25,22 @@ pub(crate) fn run_decode(
 ) -> bool {
     let mut work = [0u16; LONGEST];
     let mut report = [0u16; LONGEST];
+    let mut totals = [0u16; PLACES];
     let qc = next_u32();
     let qm = next_u32();
     let frame = take_words(frame);
     let work = take_words(&mut work);
     let symbols = take_bytes(symbols);
     let report = take_words(&mut report);
+    let totals = take_words(&mut totals);
     if !ended() {
         return false;
     }
-    print_count(decoder::decode(n, map, coefs, qc, qm, frame, work, symbols, report));
+    print_count(decoder::decode(n, map, coefs, qc, qm, frame, work, symbols, report, totals));
     print_words(work);
     print_bytes(symbols);
     print_words(report);
+    print_words(totals);
     true
 }
 
@@ -99,6 +102,7 @@ fn trip_line(
     work: &mut [u16],
     symbols: &mut [u8],
     report: &mut [u16],
+    totals: &mut [u16],
     decoded: &mut [u8],
 ) {
     print_count(loopback::round_trip(
@@ -117,6 +121,7 @@ fn trip_line(
         work,
         symbols,
         report,
+        totals,
         decoded,
     ));
     print_samples(samples);
@@ -124,6 +129,7 @@ fn trip_line(
     print_words(work);
     print_bytes(symbols);
     print_words(report);
+    print_words(totals);
     print_bytes(decoded);
 }
 
@@ -140,6 +146,7 @@ pub(crate) fn run_round_trip(
     let mut message = [0u8; PLACES];
     let mut work = [0u16; LONGEST];
     let mut report = [0u16; LONGEST];
+    let mut totals = [0u16; PLACES];
     let message = take_bytes(&mut message);
     let link = next_link();
     let samples = take_samples(samples);
@@ -147,6 +154,7 @@ pub(crate) fn run_round_trip(
     let work = take_words(&mut work);
     let symbols = take_bytes(symbols);
     let report = take_words(&mut report);
+    let totals = take_words(&mut totals);
     let decoded = take_bytes(text);
     if !ended() {
         return false;
@@ -162,6 +170,7 @@ pub(crate) fn run_round_trip(
         work,
         symbols,
         report,
+        totals,
         decoded,
     );
     true

@@ -2,20 +2,21 @@
 use mathlib.Core.Path.{_≡_, sym, ap, _∙_, subst}
 use mathlib.Core.Logic.{_⊎_, inl, inr}
 use mathlib.Core.List.{List}
-use Prim.Native.Nat.{ℕ, zero, suc, _*_, _^_, _≤_, _<_}
-use native.Mathlib.Nat.{le-refl, le-of-suc-le-suc, eq-or-lt-of-le, not-suc-le-zero}
+use Prim.Native.Nat.{ℕ, zero, suc, _+_, _*_, _/_, _%_, _-_, _^_, _≤_, _<_}
+use native.Mathlib.Nat.{le-refl, le-of-suc-le-suc, eq-or-lt-of-le, not-suc-le-zero, zero-div, zero-mul}
 use native.Mathlib.Omega.{arith}
 use lib.Dec.{lit<}
+use lib.Pow.{pow-pos}
 use lib.ListN.{length, getD, length-set, length-replicate, getD-replicate}
 use lib.Seq.{getD-set-same, getD-set-other, ext-getD}
-use Rattle.vector.specs.Vector.{vectorAt}
-use Rattle.vector.proofs.Laws.{joined-part, length-joined}
+use Rattle.vector.specs.Vector.{vectorAt, sumTo}
+use Rattle.vector.proofs.Laws.{getD-tabulate, sum-none, joined-part, length-joined}
 use Rattle.polar_code.specs.Code.{Code, kindOf, IsWord}
 use Rattle.polar.proofs.Numbers.{lt-or-le}
 use Rattle.scms.specs.Mode.{Mode}
 use Rattle.scms.specs.Decision.{decision}
-use Rattle.scms.specs.Decoder.{heldAt, decidedTo, held, symbols, report}
-use Rattle.scms.specs.Claims.{Agree}
+use Rattle.scms.specs.Decoder.{loweredAt, takenIn, takenOff, heldAt, decidedTo, held, symbols, report, totals}
+use Rattle.scms.specs.Claims.{Agree, FirstTotal}
 use Rattle.scms.proofs.DecisionLaws.{decision-lt}
 use Rattle.scms.proofs.VectorLaws.{vector-long}
 use Rattle.scms.proofs.Earlier.{only-earlier}
@@ -130,3 +131,20 @@ module _ (code : Code) (mode : Mode) (frame : List ℕ) where
   pub report-place : 1 ≤ n → (i : ℕ) → i < 2 ^ n → vectorAt (report code mode frame) i ≡ held code mode frame i
   unfolding report vectorAt
   report-place hn i l = joined-part 64 (held code mode frame) (2 ^ n) (held-long hn) i l
+
+  -- ---- the totals
+
+  -- the number of place i
+  pub total-place : (i : ℕ) → i < 2 ^ n → getD (totals code mode frame) i 0 ≡ takenOff code mode frame (symbols code mode frame) i
+  unfolding totals
+  total-place i l = getD-tabulate 0 (2 ^ n) (takenOff code mode frame (symbols code mode frame)) i l
+
+  -- that of place 0
+  pub first-total : FirstTotal code mode frame
+  unfolding takenOff takenIn
+  first-total =
+      total-place 0 (pow-pos n)
+      ∙ sum-none n (λ d. takenIn code mode frame (symbols code mode frame) (suc d) 0) (λ d l.
+      let size = 2 ^ (n - suc d) in
+      ap (λ (q : ℕ). q % 2 * sumTo size (λ k. loweredAt code mode frame (symbols code mode frame) (suc d) (0 / (2 * size) * size + k) .taken)) (zero-div size)
+      ∙ zero-mul _)

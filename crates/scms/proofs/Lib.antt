@@ -15,6 +15,7 @@ pub mod ByHalves
 pub mod TreeTotals
 pub mod Exact
 pub mod TreeLists
+pub mod TotalsFit
 pub mod LeastTotals
 pub mod FrozenPlaces
 pub mod BestWord

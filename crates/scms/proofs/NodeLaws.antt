@@ -121,6 +121,11 @@ pub count-from : (cap h u : ℕ) (theta phi : List ℕ) → exceeding cap (lessF
 unfolding clippedEntries lowered
 count-from cap h u theta phi = refl
 
+-- and what it takes off
+pub taken-from : (h u : ℕ) (theta phi : List ℕ) → lessFrom u theta (ordered h phi) .taken ≡ lowered h u theta phi .taken
+unfolding lowered
+taken-from h u theta phi = refl
+
 -- ---- what each node keeps: 64 entries, a 0, a bound
 
 -- a vector after the clip has 64 entries
@@ -184,6 +189,18 @@ check-most most h v w u mv zw b lb =
     let p = check-le h v w b c lb lc in
     let q = mv (b ⊕ c) (sum-lt b c lb lc) in
     let r = quotient-at h u z (zw .within) w ∙ zw .is-zero in
+    omega arith
+
+-- what a variable node takes off is at most θ's bound, since φ's vector holds a 0
+pub taken-most : (most h u : ℕ) (v w : List ℕ) → NonZero h → u < 64 → AtMost most v → HasZero w → lowered h u v w .taken ≤ most
+taken-most most h u v w nz lu mv zw =
+    let z = zw .zero-at in
+    let c = inverse h ⊙ z in
+    let lc = quotient-lt h nz z (zw .within) in
+    let p = taken-le h v w u c lc in
+    let q = sums-at h v w u c lc in
+    let r = mv (u ⊕ c) (sum-lt u c lu lc) in
+    let s = quotient-at h nz z (zw .within) w ∙ zw .is-zero in
     omega arith
 
 -- before the cap an entry of a variable node is at most the two bounds together

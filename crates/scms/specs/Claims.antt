@@ -1,10 +1,10 @@
 -- What is said of the decoder: of all its vectors, of its answer place by place, and of the whole word. Each is proved
 -- from the definitions, for every n, every cap, every code with coefficients from 1 to 63 and every frame whose vectors
 -- each hold a 0, and with what else its comment asks for.
-use Prim.Native.Nat.{ℕ, _+_, _-_, _/_, _%_, _^_, _≤_, _<_}
+use Prim.Native.Nat.{ℕ, _+_, _*_, _-_, _/_, _%_, _^_, _≤_, _<_}
 use mathlib.Core.Path.{_≡_}
 use mathlib.Core.List.{List, [], _∷_, _++_}
-use lib.ListN.{getD, take}
+use lib.ListN.{getD}
 use Rattle.refusal.specs.Tests.{Within}
 use Rattle.vector.specs.Vector.{leastTo, vectorAt, HasZero, AtMost, OnlyZero}
 use Rattle.vector.specs.Frame.{largestLlr}
@@ -13,8 +13,8 @@ use Rattle.polar_code.specs.declared.kinds.Kind.the-variants.{Message as messag
 use Rattle.polar.specs.Transform.{theta, phi, coefficient, transform}
 use Rattle.scms.specs.Mode.{Mode, modeOf}
 use Rattle.scms.specs.Nodes.{checkNode, clipped}
-use Rattle.scms.specs.Decoder.{thetaSymbol, vectors, thetaVector, phiVector, loweredAt, takenOff}
-use Rattle.scms.specs.Decoder.{heldAt, held, symbols, count}
+use Rattle.scms.specs.Decoder.{thetaSymbol, vectors, thetaVector, phiVector, loweredAt}
+use Rattle.scms.specs.Decoder.{heldAt, held, symbols, totals, count}
 use Rattle.scms.specs.Totals.{total, LeastTotal, InCode, EachZero, EachAtMost, Unclipped}
 
 -- the update rule at kernel t of layer l: θ gets the vector of the check node, φ that of the variable node, clipped
@@ -59,20 +59,31 @@ NeverClipped code frame =
     code .n ≤ 8 → Coefficients (code .coefs) → EachZero (code .n) frame → EachAtMost (code .n) 31 frame
     → Unclipped code (modeOf 13) frame
 
-module _ (code : Code) (mode : Mode) (frame : List ℕ) where
-  -- what is held for value b at place i, and what was taken off along the place's line. In an unclipped frame this is a
-  -- least total (LeastTotals)
-  unfoldable pub heldAndTaken : (i b : ℕ) → ℕ
-  heldAndTaken i b = getD (held code mode frame i) b 0 + takenOff code mode frame (symbols code mode frame) i
+-- At every cap, clipped or not, no number of the totals exceeds n × most × 2^(n−1), most being the largest penalty of
+-- the frame: an entry of layer l is at most most × 2^l, since a check node raises nothing and a variable node at most
+-- doubles; so a kernel of layer l takes off at most most × 2^(l−1), and the 2^(n−l) kernels of a block most × 2^(n−1)
+abbrev pub TotalsFit : (most : ℕ) → Code → Mode → (frame : List ℕ) → Type 0
+TotalsFit most code mode frame =
+    Coefficients (code .coefs) → EachZero (code .n) frame → EachAtMost (code .n) most frame → (i : ℕ) → i < 2 ^ code .n
+    → getD (totals code mode frame) i 0 ≤ code .n * (most * (2 ^ code .n / 2))
 
--- In an unclipped frame, what is held for place i: for each value b the least total of the row decided before it,
--- followed by b, less the least of the 64
-pub record LeastTotals (code : Code) (mode : Mode) (frame : List ℕ) (i : ℕ) : Type 0 where
-  pub least : (b : ℕ) → b < 64
-      → LeastTotal code frame (take i (symbols code mode frame) ++ (b ∷ [])) (heldAndTaken code mode frame i b)
-  pub less-least : (b : ℕ) → b < 64
-      → getD (held code mode frame i) b 0
-      ≡ heldAndTaken code mode frame i b - leastTo 63 (heldAndTaken code mode frame i)
+-- the number of place 0 is 0, clipped or not: its line has check nodes only
+abbrev pub FirstTotal : Code → Mode → (frame : List ℕ) → Type 0
+FirstTotal code mode frame = getD (totals code mode frame) 0 0 ≡ 0
+
+-- What is said of one place in an unclipped frame: of the row of symbols decided before it, of its number in the
+-- totals, and of the 64 penalties held for it
+module _ (code : Code) (frame row : List ℕ) (number : ℕ) (llrs : List ℕ) where
+  -- what is held for value b and the place's number
+  abbrev pub heldAndTotal : (b : ℕ) → ℕ
+  heldAndTotal b = getD llrs b 0 + number
+
+  -- the number is the least total of the row, what is held for a value and the number the least total of the row
+  -- followed by that value, and so what is held that least total less the least of the 64
+  pub record LeastTotals : Type 0 where
+    pub of-row : LeastTotal code frame row number
+    pub with-value : (b : ℕ) → b < 64 → LeastTotal code frame (row ++ (b ∷ [])) (heldAndTotal b)
+    pub less-least : (b : ℕ) → b < 64 → getD llrs b 0 ≡ heldAndTotal b - leastTo 63 heldAndTotal
 
 -- the decision at place i, clipped or not: a frozen place gets what it always holds, a message place the smallest value
 -- whose held penalty is 0

@@ -91,6 +91,10 @@ module _ (code : Code) (mode : Mode) (frame : List ℕ) where
   unfoldable pub report : List ℕ
   report = joined (2 ^ code .n) held
 
+  -- the totals: for each place, what was taken off along its line
+  unfoldable pub totals : List ℕ
+  totals = tabulate (2 ^ code .n) (takenOff code mode frame symbols)
+
   -- the count of clipped entries over all variable nodes
   unfoldable pub count : ℕ
   count = clipCount code mode frame symbols

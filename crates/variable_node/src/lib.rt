@@ -4,5 +4,5 @@
 mod translate;
 mod variable;
 
-pub use variable::Clipped;
+pub use variable::VariableNode;
 pub use variable::variable_node;

@@ -41,7 +41,7 @@ fn exceeds(cap: u16, x: u16) -> u16
 }
 
 // 64 penalties after the clip, and how many exceeded the cap before it.
-pub struct Clipped {
+struct Clipped {
     pub llrs: [u16; 64],
     pub count: u32,
 }
@@ -64,15 +64,29 @@ fn clip_llrs(cap: u16, v: &[u16; 64]) -> Clipped
     Clipped { llrs, count }
 }
 
+// What a variable node gives: its 64 penalties, how many of them were clipped, and what was taken off before the clip.
+pub struct VariableNode {
+    pub llrs: [u16; 64],
+    pub count: u32,
+    pub taken: u16,
+}
+
 // A variable node, from theta's vector, phi's in the order of c and theta's symbol u: its sums, less the least of
 // them, and only then clipped to the cap. The count of clipped entries is at most 64, so that a caller can add those
 // of all nodes. Of each penalty the thirteen low bits count, of u the six low ones.
-pub fn variable_node(theta: &[u16; 64], ordered: &[u16; 64], u: u8, cap: u16) -> Clipped
-    ensures { λ r. ⌜ IsVariableNode cap u (now (theta .entry)) (now (ordered .entry)) (r .llrs) (r .count) ⌝ }
+pub fn variable_node(theta: &[u16; 64], ordered: &[u16; 64], u: u8, cap: u16) -> VariableNode
+    ensures { λ r. ⌜ IsVariableNode cap u (now (theta .entry)) (now (ordered .entry)) r ⌝ }
 {
     let low_theta = low_bits(theta);
     let low_ordered = low_bits(ordered);
     let all = sums(&low_theta, &low_ordered, u % 64);
     let low = vector::subtract_least(&all);
-    clip_llrs(cap, &low)
+    let rest = low.rest;
+    let clipped = clip_llrs(cap, &rest);
+    let llrs = clipped.llrs;
+    VariableNode {
+        llrs,
+        count: clipped.count,
+        taken: low.taken,
+    }
 }

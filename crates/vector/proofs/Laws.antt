@@ -3,7 +3,7 @@ use mathlib.Core.Path.{_≡_, refl, sym, ap, ap₂, _∙_, subst}
 use mathlib.Core.Logic.{_⊎_, inl, inr}
 use mathlib.Core.List.{List, [], _∷_, _++_, map}
 use Prim.Native.Nat.{ℕ, zero, suc, _+_, _-_, _*_, _/_, _%_, _≤_, _<_, min, suc-le-suc}
-use native.Mathlib.Nat.{add-zero, zero-add, add-suc, suc-add, add-comm, add-assoc, mul-zero, mul-add, mul-le-mul-left, le-of-suc-le-suc, not-suc-le-zero, eq-or-lt-of-le, min-le-left, min-le-right, min-eq-left, min-eq-right, le-trans, le-refl, le-of-lt, le-of-eq, mul-suc}
+use native.Mathlib.Nat.{add-zero, zero-add, add-suc, suc-add, add-comm, add-assoc, mul-zero, mul-add, mul-le-mul-left, le-of-suc-le-suc, not-suc-le-zero, eq-or-lt-of-le, min-le-left, min-le-right, min-eq-left, min-eq-right, le-trans, le-refl, le-of-lt, le-of-eq, mul-suc, add-sub-of-le}
 use native.Mathlib.Decide.{decLt}
 use native.Mathlib.Numerals.{add-one}
 use native.Mathlib.Omega.{arith}
@@ -147,6 +147,13 @@ sum-split m zero f = ap (λ (k : ℕ). sumTo k f) (add-zero m) ∙ sym (add-zero
 sum-split m (suc n) f =
     ap (λ (k : ℕ). sumTo k f) (add-suc m n) ∙ ap (λ (a : ℕ). a + f (m + n)) (sum-split m n f)
     ∙ add-assoc (sumTo m f) (sumTo n (λ i. f (m + i))) (f (m + n))
+
+-- so the sum of the first terms is at most that of all
+pub sum-part : (m n : ℕ) (f : ℕ → ℕ) → m ≤ n → sumTo m f ≤ sumTo n f
+sum-part m n f l =
+    let e = ap (λ (k : ℕ). sumTo k f) (add-sub-of-le l) in
+    let s = sum-split m (n - m) f in
+    omega arith
 
 -- each term times a
 pub sum-scale : (a n : ℕ) (f : ℕ → ℕ) → sumTo n (λ i. a * f i) ≡ a * sumTo n f

@@ -23,18 +23,24 @@ pub fn least_of(v: &[u16; 64]) -> u16
     m
 }
 
-// Each of the 64 entries less the least of them.
-pub fn subtract_least(v: &[u16; 64]) -> [u16; 64]
-    ensures { λ r. ⌜ r ≡ lessLeast (now (v .entry)) ⌝ }
+// A vector less its least entry, and what was taken off.
+pub struct Lowered {
+    pub rest: [u16; 64],
+    pub taken: u16,
+}
+
+// Each of the 64 entries less the least of them, and that least.
+pub fn subtract_least(v: &[u16; 64]) -> Lowered
+    ensures { λ r. ⌜ (r .rest ≡ lessLeast (now (v .entry))) × (r .taken ≡ least (now (v .entry))) ⌝ }
 {
     let taken = least_of(v);
-    let mut r = [0u16; 64];
+    let mut rest = [0u16; 64];
     let mut b: usize = 0;
     while b < 64 {
-        r[b] = v[b] - taken;
+        rest[b] = v[b] - taken;
         b += 1;
     }
-    r
+    Lowered { rest, taken }
 }
 
 // Writes v as vector i of a slice. Where the slice has no such vector, nothing is written.

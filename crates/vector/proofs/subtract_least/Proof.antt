@@ -10,13 +10,13 @@ use Rattle.vector.proofs.subtract_least.Statement.{statement}
 use Rattle.vector.proofs.subtract_least.Tie as tie
 
 abbrev Inv-loop : tie.InvT-loop
-Inv-loop v taken r₀ b₀ r b = Filled 64 (λ i. getD v i 0 - least v) r b
+Inv-loop v taken rest₀ b₀ rest b = Filled 64 (λ i. getD v i 0 - least v) rest b
 
 abbrev μ-loop : tie.MeasureT-loop
-μ-loop v taken r₀ b₀ r b = 64 - b
+μ-loop v taken rest₀ b₀ rest b = 64 - b
 
 -- the loop's head, from the place where an entry is read, and the entry of the call, from the head
-abbrev at-loop : tie.After-r Inv-loop μ-loop → tie.At-loop Inv-loop μ-loop
+abbrev at-loop : tie.After-rest Inv-loop μ-loop → tie.At-loop Inv-loop μ-loop
 at-loop c = c .before .before
 
 abbrev entry : tie.At-loop Inv-loop μ-loop → tie.Start Inv-loop μ-loop
@@ -25,8 +25,8 @@ entry c = c .before .before
 loop-holds : tie.Need-loop-holds Inv-loop μ-loop
 loop-holds c = fill-none refl
 
-sub-r : tie.Need-sub-r Inv-loop μ-loop
-sub-r c =
+sub-rest : tie.Need-sub-rest Inv-loop μ-loop
+sub-rest c =
     let v = entry (at-loop c) .args .v .now in
     let b = at-loop c .loop .b in
     let e = at-loop c .before .least-of .ensures in
@@ -40,7 +40,7 @@ loop-again c =
 
 returns : tie.Need-returns Inv-loop μ-loop
 unfolding lessLeast
-returns c = fill-all (c .before .loop .inv) (c .loop-test .left)
+returns c = (fill-all (c .before .loop .inv) (c .loop-test .left), c .before .before .least-of .ensures)
 
 pub subtract-least-spec : {M : Type 1} → statement M
 subtract-least-spec =
@@ -49,6 +49,6 @@ subtract-least-spec =
     (λ c κs. search needs)
     loop-holds
     (λ c. search needs) (λ c. search needs)
-    sub-r
+    sub-rest
     (λ c. search needs) (λ c. search needs) (λ c. search needs) (λ c. search needs)
     loop-again returns)

@@ -11,6 +11,7 @@ use lib.ListN.{length, drop}
 use lib.Seq.{length-take-le}
 use Rattle.vector.proofs.LentParts.{put, put-drop, put-long, lent-long, lent-whole}
 use Rattle.decoder.specs.Parts.{BlockGiven}
+use Rattle.decoder.proofs.HalvesLaws as halves
 use Rattle.decoder.proofs.BlockLaws as laws
 use Rattle.decoder.proofs.block.decode_block.Reads as block-reads
 use Rattle.decoder.proofs.block.decode_block.Kinds as block-kinds
@@ -23,14 +24,14 @@ use Rattle.decoder.proofs.block.+decode_block.{statement}
 use Rattle.decoder.proofs.block.+decode_block.Tie.{close}
 
 -- the number of layers falls
-abbrev μ-layers : Measures 7 block-kinds.ps ℕ
+abbrev μ-layers : Measures 8 block-kinds.ps ℕ
 μ-layers κs a = a .0 .layers
 
-abbrev given : ℕ → In 7 block-kinds.ps
-given t = and 7 block-kinds.ps (is 7 block-kinds.ps μ-layers t) block-reads.Pre
+abbrev given : ℕ → In 8 block-kinds.ps
+given t = and 8 block-kinds.ps (is 8 block-kinds.ps μ-layers t) block-reads.Pre
 
-abbrev below : ℕ → In 7 block-kinds.ps
-below t = and 7 block-kinds.ps (falls 7 block-kinds.ps _<_ μ-layers t) block-reads.Pre
+abbrev below : ℕ → In 8 block-kinds.ps
+below t = and 8 block-kinds.ps (falls 8 block-kinds.ps _<_ μ-layers t) block-reads.Pre
 
 -- what the functions that it calls ask and say
 abbrev calls : ℕ → lts.Claims
@@ -84,42 +85,49 @@ module _ (t : ℕ) where
 
   -- from each to the one before it
   abbrev single-entry : Single → Entry
-  single-entry c = c .before .before .before .before .before .before .before .before .before
+  single-entry c = c .before .before .before .before .before .before .before .before .before .before
 
   abbrev to-single : SingleDecoded → Single
-  to-single c = c .before .before .before .before .before
+  to-single c = c .before .before .before .before .before .before
 
   abbrev entry : Layered → Entry
-  entry c = c .before .before .before .before .before .before .before .before .before
+  entry c = c .before .before .before .before .before .before .before .before .before .before
+
+  abbrev work-known : Layered → lts.After-slice-known (calls t) (given t) block-reads.Post
+  work-known c = c .before .before .before .before .before .before
 
   abbrev to-layered : Checked → Layered
-  to-layered c = c .before .before .before .before .before .before .before .before
+  to-layered c = c .before .before .before .before .before .before .before
 
   abbrev to-checked : FirstDecoded → Checked
-  to-checked c = c .before .before .before .before .before .before .before .before .before .before
+  to-checked c = c .before .before .before .before .before .before .before .before .before .before .before
 
   abbrev to-first : Variable → FirstDecoded
-  to-first c = c .before .before .before .before .before .before .before .before .before .before .before .before .before
+  to-first c = c .before .before .before .before .before .before .before .before .before .before .before .before .before .before .before
 
   abbrev to-variable : SecondDecoded → Variable
-  to-variable c = c .before .before .before .before .before .before .before .before
+  to-variable c = c .before .before .before .before .before .before .before .before .before .before .before
 
   abbrev to-second : Joined → SecondDecoded
-  to-second c = c .before .before .before .before .before .before .before .before .before .before
+  to-second c = c .before .before .before .before .before .before .before .before .before .before .before .before
 
   -- from the place before the check nodes to the test, and from the first place where a part is lent to the first half,
-  -- to the variable nodes and to the second half to the state before them
-  abbrev unchecked : lts.After-struct-known6 (calls t) (given t) block-reads.Post → Layered
-  unchecked c = c .before .before .before .before .before
+  -- to the variable nodes and to the second half to the state before them, and from the place where the second half's
+  -- record is begun to the variable nodes
+  abbrev unchecked : lts.After-struct-known5 (calls t) (given t) block-reads.Post → Layered
+  unchecked c = c .before .before .before .before
 
   abbrev lent-first : lts.After-decode-block-arg (calls t) (given t) block-reads.Post → Checked
   lent-first c = c .before .before .before .before .before
 
   abbrev lent-variable : lts.After-variable-nodes-arg2 (calls t) (given t) block-reads.Post → FirstDecoded
-  lent-variable c = c .before .before .before .before .before .before .before .before .before .before
+  lent-variable c = c .before .before .before .before .before .before .before .before .before .before .before .before
 
-  abbrev lent-second : lts.After-decode-block-arg7 (calls t) (given t) block-reads.Post → Variable
-  lent-second c = c .before .before .before .before
+  abbrev lent-second : lts.After-decode-block-arg8 (calls t) (given t) block-reads.Post → Variable
+  lent-second c = c .before .before .before .before .before .before
+
+  abbrev begun : lts.After-slice-known17 (calls t) (given t) block-reads.Post → Variable
+  begun c = c .before .before
 
   -- and from the first half to the test
   abbrev layered : FirstDecoded → Layered
@@ -159,7 +167,7 @@ module _ (t : ℕ) where
 
   -- so the block is given what it was
   again : (c : Checked) → let a = entry (to-layered c) .args in
-      BlockGiven (a .block) (a .coefs .now) (a .map .now) (a .frame .now) (a .work .now) (a .word .now) (a .symbols .now) (noted c)
+      BlockGiven (a .block) (a .coefs .now) (a .map .now) (a .frame .now) (a .work .now) (a .word .now) (a .symbols .now) (noted c) (a .totals .now)
   again c = laws.at-report (layer (to-layered c)) (entry (to-layered c) .pre .1) (noted-long c)
 
   -- and its report has room for that of a half
@@ -167,12 +175,13 @@ module _ (t : ℕ) where
   noted-room c = laws.at-sizes (layer (to-layered c)) (again c) .in-report
 
   -- ---- what the first half left
-  abbrev first-left : FirstDecoded → laws.Left
+  abbrev first-left : FirstDecoded → halves.Left
   first-left c = record {
     work = c .decode-block .last .1 .1 .1 .1 .0;
     word = c .decode-block .last .1 .1 .1 .1 .1 .0;
     symbols = c .decode-block .last .1 .1 .1 .1 .1 .1 .0;
     report = c .decode-block .last .1 .1 .1 .1 .1 .1 .1 .0;
+    totals = c .decode-block .last .1 .1 .1 .1 .1 .1 .1 .1 .0;
     count = c .decode-block .result;
   }
 
@@ -188,6 +197,7 @@ module _ (t : ℕ) where
         word-long = c .decode-block .kept .1 .1 .1 .1 .1 .0;
         symbols-long = c .decode-block .kept .1 .1 .1 .1 .1 .1 .0;
         report-long = c .decode-block .kept .1 .1 .1 .1 .1 .1 .1 .0;
+        totals-long = c .decode-block .kept .1 .1 .1 .1 .1 .1 .1 .1 .0;
         decoded = c .decode-block .ensures;
       }
 
@@ -210,17 +220,24 @@ module _ (t : ℕ) where
       let q = lent-long (cut (layered c)) (noted (to-checked c)) (first-left c .report) (first-half c .report-long) l in
       omega arith
 
+  totals-part : (c : FirstDecoded) → half (layered c) ≤ length (first-left c .totals ++ drop (half (layered c)) (entry (layered c) .args .totals .now))
+  totals-part c =
+      let l = sizes (layered c) .in-totals in
+      let q = lent-long (half (layered c)) (entry (layered c) .args .totals .now) (first-left c .totals) (first-half c .totals-long) l in
+      omega arith
+
   -- ---- what the variable nodes left of the work buffer: its length
   variable-long : (c : Variable) → length (c .variable-nodes .last .1 .1 .1 .1 .0) ≡ length (first-left (to-first c) .work)
   variable-long c = c .variable-nodes .kept .1 .1 .1 .1 .0
 
   -- ---- what the second half left
-  abbrev second-left : SecondDecoded → laws.Left
+  abbrev second-left : SecondDecoded → halves.Left
   second-left c = record {
     work = c .decode-block2 .last .1 .1 .1 .1 .0;
     word = c .decode-block2 .last .1 .1 .1 .1 .1 .0;
     symbols = c .decode-block2 .last .1 .1 .1 .1 .1 .1 .0;
     report = c .decode-block2 .last .1 .1 .1 .1 .1 .1 .1 .0;
+    totals = c .decode-block2 .last .1 .1 .1 .1 .1 .1 .1 .1 .0;
     count = c .decode-block2 .result;
   }
 
@@ -229,7 +246,7 @@ module _ (t : ℕ) where
   second-half c = record { word-long = c .decode-block2 .kept .1 .1 .1 .1 .1 .0; decoded = c .decode-block2 .ensures }
 
   -- the counts add up within 32 bits
-  few-counted : (c : SecondDecoded) → first-left (to-first (to-variable c)) .count + to-variable c .variable-nodes .result + second-left c .count ≤ 300000
+  few-counted : (c : SecondDecoded) → first-left (to-first (to-variable c)) .count + to-variable c .variable-nodes .result .count + second-left c .count ≤ 300000
   few-counted c =
       let v = to-variable c in
       let d = to-first v in
@@ -251,22 +268,26 @@ pub +decode-block-spec : {M : Type 1} → statement M
     close μ-layers λ t.
     lts.spec (calls t) (given t) block-reads.Post
     -- one place
-    (λ c κs. let e = c .before .before .before .before in laws.at-place (e .if1 .taken) (single-entry t e .pre .1))
+    (λ c κs. let e = c .before .before .before .before .before in laws.at-place (e .if1 .taken) (single-entry t e .pre .1))
+    (λ c. search needs)
     (λ c. search needs)
     (λ c. search needs)
     (λ c. search needs)
     (λ c. search needs)
     (λ c.
-    let p = c .before .before .before .before .before .before in
+    let p = c .before .before .before .before .before .before .before .before in
     let e = to-single t p in
     laws.at-leaf (e .if1 .taken) (single-entry t e .pre .1) (p .decode-place .ensures))
     -- the numbers of the halves
-    (λ c. let z = sizes t (c .before .before) in omega arith)
     (λ c. search needs)
+    (λ c. let z = sizes t (c .before .before .before) in omega arith)
     (λ c. search needs)
-    (λ c. search needs)
-    (λ c. search needs)
-    (λ c. search needs)
+    (λ c.
+    let w = work-known t (unchecked t c) in
+    let work-short = w .slice-known .given in
+    let frame-short = w .before .shared-slice-known3 .given in
+    let long = entry t (unchecked t c) .pre .1 .long in
+    search needs)
     (λ c. let z = sizes t (unchecked t c) in omega arith)
     -- the check nodes
     (λ c. let z = sizes t (unchecked t (c .before)) in omega arith)
@@ -282,8 +303,10 @@ pub +decode-block-spec : {M : Type 1} → statement M
     (λ c. let e = to-layered t (lent-first t (c .before .before .before)) in sym (length-take-le (half t e) (entry t e .args .symbols .now) (sizes t e .in-symbols)))
     (λ c. let z = sizes t (to-layered t (lent-first t (c .before .before .before))) in search needs)
     (λ c. let k = lent-first t (c .before .before .before .before) in sym (length-take-le (cut t (to-layered t k)) (noted t k) (noted-room t k)))
+    (λ c. let z = sizes t (to-layered t (lent-first t (c .before .before .before .before))) in search needs)
+    (λ c. let e = to-layered t (lent-first t (c .before .before .before .before .before)) in sym (length-take-le (half t e) (entry t e .args .totals .now) (sizes t e .in-totals)))
     (λ c κs.
-    let k = lent-first t (c .before .before .before .before) in
+    let k = lent-first t (c .before .before .before .before .before) in
     let e = to-layered t k in
     (fewer (entry t e .args .block .layers) t (layer t e) (entry t e .pre .0), laws.at-first (layer t e) (again t k) (checked-long t k) (k .check-nodes .ensures)))
     -- the variable nodes
@@ -295,8 +318,14 @@ pub +decode-block-spec : {M : Type 1} → statement M
     let d = lent-variable t (c .before .before) in
     let e = layered t d in
     let g = again t (to-checked t d) in
-    (laws.at-variable (layer t e) g (first-half t d), laws.at-symbols (layer t e) g (first-half t d), laws.at-ordered (layer t e) g (first-half t d)))
+    (laws.at-variable (layer t e) g (first-half t d), laws.at-symbols (layer t e) g (first-half t d), laws.at-ordered (layer t e) g (first-half t d), laws.at-sum (layer t e) g (first-half t d)))
     -- the second half
+    (λ c. let z = sizes t (layered t (to-first t (begun t c))) in omega arith)
+    (λ c.
+    let v = begun t (c .before .before) in
+    let d = to-first t v in
+    let fits = laws.at-taken (layer t (layered t d)) (again t (to-checked t d)) (first-half t d) (variable-long t v) (v .variable-nodes .ensures) in
+    omega arith)
     (λ c. search needs)
     (λ c. search needs)
     (λ c. search needs)
@@ -310,33 +339,42 @@ pub +decode-block-spec : {M : Type 1} → statement M
     (λ c. report-part t (to-first t (lent-second t (c .before .before))))
     (λ c. report-part t (to-first t (lent-second t (c .before .before))))
     (λ c. search needs)
+    (λ c. let z = sizes t (layered t (to-first t (lent-second t (c .before .before .before)))) in omega arith)
+    (λ c. totals-part t (to-first t (lent-second t (c .before .before .before))))
+    (λ c. totals-part t (to-first t (lent-second t (c .before .before .before))))
+    (λ c. search needs)
     (λ c κs.
-    let v = lent-second t (c .before .before .before) in
+    let v = lent-second t (c .before .before .before .before) in
     let d = to-first t v in
     let e = layered t d in
     (fewer (entry t e .args .block .layers) t (layer t e) (entry t e .pre .0), laws.at-second (layer t e) (again t (to-checked t d)) (first-half t d) (variable-long t v) (v .variable-nodes .ensures)))
     -- the words joined, and what is left
     (λ c κs. tt)
-    (λ c. let n = few-counted t (to-second t (c .before .before)) in omega arith)
-    (λ c. let n = few-counted t (to-second t (c .before .before)) in omega arith)
+    (λ c. let n = few-counted t (to-second t (c .before .before .before)) in omega arith)
+    (λ c. let n = few-counted t (to-second t (c .before .before .before)) in omega arith)
     (λ c.
-    let s = to-second t (c .before .before) in
+    let s = to-second t (c .before .before .before) in
     let d = to-first t (to-variable t s) in
     s .decode-block2 .kept .1 .1 .1 .1 .0 ∙ variable-long t (to-variable t s) ∙ first-half t d .work-long ∙ first-half t d .checked-long)
     (λ c.
-    let s = to-second t (c .before .before) in
+    let s = to-second t (c .before .before .before) in
     let d = to-first t (to-variable t s) in
     let e = layered t d in
-    c .before .before .join-halves .kept .1 .1 .1 .0 ∙ lent-whole (half t e) (entry t e .args .word .now) (first-left t d .word) (first-half t d .word-long) (sizes t e .in-word) (second-left t s .word) (second-half t s .word-long))
+    c .before .before .before .join-halves .kept .1 .1 .1 .0 ∙ lent-whole (half t e) (entry t e .args .word .now) (first-left t d .word) (first-half t d .word-long) (sizes t e .in-word) (second-left t s .word) (second-half t s .word-long))
     (λ c.
-    let s = to-second t (c .before .before) in
+    let s = to-second t (c .before .before .before) in
     let d = to-first t (to-variable t s) in
     let e = layered t d in
     lent-whole (half t e) (entry t e .args .symbols .now) (first-left t d .symbols) (first-half t d .symbols-long) (sizes t e .in-symbols) (second-left t s .symbols) (s .decode-block2 .kept .1 .1 .1 .1 .1 .1 .0))
     (λ c.
-    let s = to-second t (c .before .before) in
+    let s = to-second t (c .before .before .before) in
     let d = to-first t (to-variable t s) in
     let k = to-checked t d in
     lent-whole (cut t (to-layered t k)) (noted t k) (first-left t d .report) (first-half t d .report-long) (noted-room t k) (second-left t s .report) (s .decode-block2 .kept .1 .1 .1 .1 .1 .1 .1 .0)
     ∙ noted-long t k)
-    (λ c. done t (c .before .before))
+    (λ c.
+    let s = to-second t (c .before .before .before) in
+    let d = to-first t (to-variable t s) in
+    let e = layered t d in
+    lent-whole (half t e) (entry t e .args .totals .now) (first-left t d .totals) (first-half t d .totals-long) (sizes t e .in-totals) (second-left t s .totals) (s .decode-block2 .kept .1 .1 .1 .1 .1 .1 .1 .1 .0))
+    (λ c. done t (c .before .before .before))

@@ -31,6 +31,9 @@ slice-write-symbols c = search needs
 store-requires : tie.Need-store-requires
 store-requires c κs = search needs
 
+slice-write-totals : tie.Need-slice-write-totals
+slice-write-totals c = search needs
+
 same-length : tie.Need-same-length
 same-length c = search needs
 
@@ -40,11 +43,14 @@ same-length-2 c = search needs
 same-length-3 : tie.Need-same-length-3
 same-length-3 c = search needs
 
+same-length-4 : tie.Need-same-length-4
+same-length-4 c = search needs
+
 returns : tie.Need-returns
 returns c =
     let decided = c .before .before .before .before .before in
     let loads = decided .before .before in
-    let s = loads .before .before .before .before .before .before .before in
+    let s = loads .before .before .before .before .before .before .before .before in
     let a = s .args in
     let v = loads .load-vector .ensures in
     let symbol = decided .decide .ensures ∙ ap (decision (kindOf (getD (a .map .now) 0 0))) v in
@@ -54,6 +60,7 @@ returns c =
       symbols-are = set-only (a .symbols .now) _ (s .pre .symbols-long) ∙ ap (λ (x : ℕ). x ∷ []) symbol;
       report-is = ap (λ (xs : List ℕ). vectorAt xs 0) (c .before .before .store .ensures)
           ∙ stored-is (a .report .now) 0 fits (loads .load-vector .result) (search needs) ∙ v;
+      totals-are = set-only (a .totals .now) (a .block .taken) (s .pre .totals-long);
     }
 
 pub decode-place-spec : {M : Type 1} → statement M
@@ -66,7 +73,9 @@ decode-place-spec =
     slice-write-word
     slice-write-symbols
     store-requires
+    slice-write-totals
     same-length
     same-length-2
     same-length-3
+    same-length-4
     returns)

@@ -13,13 +13,13 @@ use Rattle.polar_code.specs.Code.{Code, codeOf}
 use Rattle.scms.specs.Mode.{capOf}
 use Rattle.decoder_refusal.specs.Refusals.{Settings, Lent, settingsOf, lentOf, Decodable}
 use Rattle.decoder_refusal.proofs.RefusalLaws.{accepted}
-use Rattle.decoder.proofs.DecodeLaws.{whole-given, symbols-decoded, count-decoded, report-decoded, promise-refused, promise-accepted}
+use Rattle.decoder.proofs.DecodeLaws.{whole-given, symbols-decoded, count-decoded, report-decoded, totals-decoded, promise-refused, promise-accepted}
 use Rattle.decoder.proofs.decoder.decode.Statement.{statement}
 use Rattle.decoder.proofs.decoder.decode.Tie as tie
 
 -- the entry, from the place after the test for a refusal
 abbrev entry : tie.Else1 → tie.Start
-entry c = c .before .before .before .before .before .before .before .before .before .before .before
+entry c = c .before .before .before .before .before .before .before .before .before .before .before .before .before
 
 -- from the place where the cap is known to that test, from the place where the word is decoded to that of the cap, and
 -- from the end to the decoded word
@@ -27,10 +27,10 @@ abbrev to-fits : tie.After-largest → tie.Else1
 to-fits c = c .before
 
 abbrev to-cap : tie.After-decode-block → tie.After-largest
-to-cap c = c .before .before .before .before .before
+to-cap c = c .before .before .before .before .before .before
 
 abbrev to-decoded : tie.After-clear → tie.After-decode-block
-to-decoded c = c .before .before .before .before .before .before .before .before .before
+to-decoded c = c .before .before .before .before .before .before .before .before .before .before .before
 
 -- what the call was given: the code, the precisions, the frame and the buffers
 abbrev code : tie.Start → Code
@@ -40,7 +40,7 @@ abbrev settings : tie.Start → Settings
 settings s = settingsOf (s .args .qc) (s .args .qm)
 
 abbrev lent : tie.Start → Lent
-lent s = lentOf (s .args .work .now) (s .args .symbols .now) (s .args .report .now)
+lent s = lentOf (s .args .work .now) (s .args .symbols .now) (s .args .report .now) (s .args .totals .now)
 
 -- no row of the table fits
 fits : (c : tie.Else1) → let s = entry c in Decodable (code s) (settings s) (s .args .frame .now) (lent s)
@@ -68,7 +68,7 @@ returns c = promise-refused _ _ _ _ (c .before .decode-refusal .ensures) (c .if1
 
 decode-block-requires : tie.Need-decode-block-requires
 decode-block-requires c κs =
-    let l = c .before .before .before .before in
+    let l = c .before .before .before .before .before in
     let e = to-fits l in
     whole-given (code (entry e)) (settings (entry e)) _ (lent (entry e)) (fits e) (word-long e ∙ fits e .is-code .map-long) (cap-is l)
     (le-trans (le-of-eq (l .largest .ensures)) (largest-most (entry e .args .qm)))
@@ -81,13 +81,14 @@ returns-2 c =
     let e = to-fits l in
     let s = entry e in
     let t = fits e in
-    let long = d .decode-block .kept .1 .1 .1 .1 .1 .1 .1 .0 ∙ t .report-long in
+    let long = d .decode-block .kept .1 .1 .1 .1 .1 .1 .1 .0 ∙ t .buffers .report-long in
     let by = d .decode-block .ensures .decoded in
     promise-accepted (code s) (settings s) (s .args .frame .now) (lent s) (sym (e .before .decode-refusal .ensures) ∙ e .if1 .left)
     (count-decoded (code s) (settings s) _ (lent s) t (cap-is l) long by)
     (symbols-decoded (code s) (settings s) _ (lent s) t (cap-is l) long by)
     (report-decoded (code s) (settings s) _ (lent s) t (cap-is l) long by)
-    (cleared .clear .ensures ∙ ap (λ (x : ℕ). replicate x 0) (d .decode-block .kept .1 .1 .1 .1 .0 ∙ t .work-long))
+    (totals-decoded (code s) (settings s) _ (lent s) t (cap-is l) long by)
+    (cleared .clear .ensures ∙ ap (λ (x : ℕ). replicate x 0) (d .decode-block .kept .1 .1 .1 .1 .0 ∙ t .buffers .work-long))
 
 pub decode-spec : {M : Type 1} → statement M
 decode-spec =
@@ -97,12 +98,14 @@ decode-spec =
     (λ c. search needs)
     (λ c. search needs)
     (λ c. search needs)
+    (λ c. search needs)
     returns
     (λ c κs. tt)
     (λ c. few (c .before .before))
     (λ c. sym (word-long (c .before .before .before)))
     decode-block-requires
     (λ c κs. tt)
+    (λ c. search needs)
     (λ c. search needs)
     (λ c. search needs)
     (λ c. search needs)

@@ -11,15 +11,17 @@ use Rattle.decoder_refusal.proofs.refusals.size_refusal.Tie as tie
 
 returns : tie.Need-returns
 unfolding unequal
-returns c4 =
+returns c5 =
     let s : tie.Start = search needs in
     let a = s .args in
+    let c4 = c5 .before in
     let c3 = c4 .before in
     let c2 = c3 .before in
     let c1 = c2 .before in
     let c0 = c1 .before in
     buffers-tried (codeOf (a .n) (a .map .now) (a .coefs .now)) (a .frame .now)
-    (lentOf (a .work .now) (a .symbols .now) (a .report .now)) (walked (call 3 ∷ []) _ tt (simp (
+    (lentOf (a .work .now) (a .symbols .now) (a .report .now) (a .totals .now)) (walked (call 3 ∷ []) _ tt (simp (
+      c5 .first5 .ensures,
       c4 .first4 .ensures,
       c3 .first3 .ensures,
       c2 .first2 .ensures,
@@ -37,4 +39,5 @@ size-refusal-spec =
     (λ c. search needs) (λ c κs. tt)
     (λ c κs. tt)
     (λ c. search needs) (λ c κs. tt)
+    (λ c κs. tt)
     returns)

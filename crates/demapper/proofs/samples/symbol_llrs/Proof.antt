@@ -10,11 +10,11 @@ use Rattle.demapper.proofs.samples.symbol_llrs.Tie as tie
 
 returns : tie.Need-returns
 returns c =
-    let less = c .before .before in
+    let less = c .before .before .before in
     let raw = less .before .before in
     let a = raw .before .args in
     c .quantise .ensures
-    ∙ ap (λ (v : List ℕ). quantisedLlrs (a .top) (a .bottom) (a .qc) v) (less .subtract-least .ensures ∙ ap lessLeast (raw .raw-llrs .ensures))
+    ∙ ap (λ (v : List ℕ). quantisedLlrs (a .top) (a .bottom) (a .qc) v) (less .subtract-least .ensures .0 ∙ ap lessLeast (raw .raw-llrs .ensures))
 
 pub symbol-llrs-spec : {M : Type 1} → statement M
 symbol-llrs-spec =
