@@ -15,7 +15,7 @@ use lib.Dec.{ltb, eqb}
 use lib.ListN.{length, getD, drop, drop-of-length-le}
 use lib.Seq.{drop-cons}
 use Rattle.refusal.specs.Tests.{outside, anyOutside, anyTo}
-use Rattle.refusal.specs.Table.{Row, refusalOf, OneOf, Numbered}
+use Rattle.refusal.specs.Table.{Row, refusalOf, NoneFits, OneOf, Numbered}
 use Rattle.refusal.proofs.Laws.{accepted-none, first-refused, first-accepted, both-accepted, accepted-both}
 use Rattle.refusal.proofs.WalkLaws.{numbered, same-after}
 use Rattle.refusal.proofs.Among.{Among, refusal-among}
@@ -28,7 +28,7 @@ use Rattle.vector.proofs.FrameLaws.{largest-is}
 use Rattle.polar_code.specs.Code.{Code, codeSizes, IsCode}
 use Rattle.polar_code.specs.Sizes.{placesOf}
 use Rattle.polar_code.proofs.CodeLaws.{rows-code, code-sizes, code-bytes, after-sizes}
-use Rattle.decoder_refusal.specs.Refusals.{noZero, greatest, llrsRow, zerosRow, bufferRows, sizeTable, codeRows, frameRows, contentTable, decodeTable, decodeRefusal, Decodable, Settings, Lent}
+use Rattle.decoder_refusal.specs.Refusals.{noZero, greatest, llrsRow, zerosRow, bufferRows, BuffersFit, sizeTable, codeRows, frameRows, contentTable, decodeTable, decodeRefusal, Decodable, Settings, Lent}
 
 -- ---- lists with no 0
 
@@ -213,6 +213,26 @@ penalties-tried map cs settings frame e =
     let few = inside-within 1 5 qc (none .0) .most in
     ap (λ (most : ℕ). refusalOf (frameRows most places frame)) (largest-is qc (omega arith)))
 
+-- ---- the rows on the lengths of the buffers
+
+-- none of them fits: the buffers have the lengths needed
+pub rows-buffers : (places : ℕ) (frame : List ℕ) (lent : Lent) → NoneFits (drop 1 (bufferRows places frame lent)) → BuffersFit places lent
+rows-buffers places frame lent rooms = record {
+  work-long = false-equal (length (lent .work)) (65 * places) (rooms .0);
+  symbols-long = false-equal (length (lent .symbols)) places (rooms .1 .0);
+  report-long = false-equal (length (lent .report)) (64 * places) (rooms .1 .1 .0);
+  totals-long = false-equal (length (lent .totals)) places (rooms .1 .1 .1 .0);
+}
+
+-- and the other way round
+pub buffers-rows : (places : ℕ) (frame : List ℕ) (lent : Lent) → BuffersFit places lent → NoneFits (drop 1 (bufferRows places frame lent))
+buffers-rows places frame lent b =
+    let work-room = equal-false (length (lent .work)) (65 * places) (b .work-long) in
+    let symbols-room = equal-false (length (lent .symbols)) places (b .symbols-long) in
+    let report-room = equal-false (length (lent .report)) (64 * places) (b .report-long) in
+    let totals-room = equal-false (length (lent .totals)) places (b .totals-long) in
+    (work-room, (symbols-room, (report-room, (totals-room, tt))))
+
 -- ---- the two parts of the table, and that a call is accepted exactly when no row fits
 module _ (code : Code) (settings : Settings) (frame : List ℕ) (lent : Lent) where
   -- N
@@ -266,12 +286,7 @@ module _ (code : Code) (settings : Settings) (frame : List ℕ) (lent : Lent) wh
       record {
         is-code = rows-code code (by-size .0, (by-size .1 .0, (by-size .1 .1 .0, tt))) (bytes .0, (bytes .1 .0, (bytes .1 .1 .0, tt)));
         frame-long = long;
-        buffers = record {
-          work-long = false-equal (length (lent .work)) (65 * size) (rooms .1 .0);
-          symbols-long = false-equal (length (lent .symbols)) size (rooms .1 .1 .0);
-          report-long = false-equal (length (lent .report)) (64 * size) (rooms .1 .1 .1 .0);
-          totals-long = false-equal (length (lent .totals)) size (rooms .1 .1 .1 .1 .0);
-        };
+        buffers = rows-buffers size frame lent (rooms .1);
         channel-precision = inside-within 1 5 qc (by-content .0);
         internal-precision = inside-within qc 13 (settings .qm) (by-content .1 .0);
         is-frame = frame-of-rows qc size frame (let most : length frame / 64 ≤ size = omega arith in most) (bytes .1 .1 .1 .0) (bytes .1 .1 .1 .1 .0);
@@ -284,17 +299,14 @@ module _ (code : Code) (settings : Settings) (frame : List ℕ) (lent : Lent) wh
       let qc = settings .qc in
       let by-size = code-sizes code (t .is-code) in
       let frame-room = equal-false (length frame) (64 * size) (t .frame-long) in
-      let work-room = equal-false (length (lent .work)) (65 * size) (t .buffers .work-long) in
-      let symbols-room = equal-false (length (lent .symbols)) size (t .buffers .symbols-long) in
-      let report-room = equal-false (length (lent .report)) (64 * size) (t .buffers .report-long) in
-      let totals-room = equal-false (length (lent .totals)) size (t .buffers .totals-long) in
+      let rooms = buffers-rows size frame lent (t .buffers) in
       let qc-fits = within-inside 1 5 qc (t .channel-precision) in
       let qm-fits = within-inside qc 13 (settings .qm) (t .internal-precision) in
       let bytes = code-bytes code (t .is-code) in
       let small = small-frame qc frame (t .is-frame) in
       let zeros = zeros-frame qc frame (t .is-frame) size (let long = t .frame-long in omega arith) in
       both-accepted sizes contents
-      (by-size .0, (by-size .1 .0, (by-size .1 .1 .0, (frame-room, (work-room, (symbols-room, (report-room, (totals-room, tt))))))))
+      (by-size .0, (by-size .1 .0, (by-size .1 .1 .0, (frame-room, rooms))))
       (qc-fits, (qm-fits, (bytes .0, (bytes .1 .0, (bytes .1 .1 .0, (small, (zeros, tt)))))))
 
   -- a code is not refused by 1, 4, 5 or 6, whatever else the call is given

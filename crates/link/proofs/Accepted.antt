@@ -147,7 +147,7 @@ module _ (code : Code) (settings : Settings) (frame : List ℕ) (lent : Lent) (f
 
   -- the rows on n and the lengths have other numbers
   by-size : OneOf (refusalOf sizes) (0 ∷ left)
-  by-size = refusal-among left sizes (inr tt, (inr tt, (inr tt, (inr tt, (inr tt, (inr tt, (inr tt, tt)))))))
+  by-size = refusal-among left sizes (inr tt, (inr tt, (inr tt, (inr tt, (inr tt, (inr tt, (inr tt, (inr tt, tt))))))))
 
   -- of the others two have them, and do not fit
   by-content : OneOf (refusalOf contents) (0 ∷ left)
@@ -190,12 +190,10 @@ frame-accepted base top bottom samples before frame code settings lent =
     record {
       not-eight = λ d. not-number code settings frame lent (written-frame base top bottom qc samples before frame d) 8 refl;
       not-nine = λ d. not-number code settings frame lent (written-frame base top bottom qc samples before frame d) 9 refl;
-      accepted = λ d c l w lw ls lr. decode.accepts code settings frame lent (record {
+      accepted = λ d c l w b. decode.accepts code settings frame lent (record {
         is-code = c;
         frame-long = written-long base top bottom qc samples before frame d (code .n) l;
-        work-long = lw;
-        symbols-long = ls;
-        report-long = lr;
+        buffers = b;
         channel-precision = demap.accepted base top bottom qc samples before (sym (d .answer)) .precision;
         internal-precision = w;
         is-frame = written-frame base top bottom qc samples before frame d;

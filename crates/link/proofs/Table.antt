@@ -24,7 +24,7 @@ use Rattle.demapper.specs.Noiseless.{sentSample, sentSymbol, numberSamples}
 use Rattle.scms.specs.Nodes.{ordered, checkFrom, checkNode, sumsFrom, sums, lessFrom, subtractLeast, clipped, exceeding, lowered, variableNode, clippedEntries}
 use Rattle.scms.specs.Decision.{smallestTo, smallest, decision}
 use Rattle.scms.specs.Mode.{capOf}
-use Rattle.scms.specs.Decoder.{nodes, thetaSymbol, vectors, thetaVector, phiVector, loweredAt, clippedAt, clipCount, heldAt, decidedTo, held, symbols, report, count}
+use Rattle.scms.specs.Decoder.{nodes, thetaSymbol, vectors, thetaVector, phiVector, loweredAt, clippedAt, clipCount, takenIn, takenOff, heldAt, decidedTo, held, symbols, report, totals, count}
 use Rattle.columns.specs.Columns.{digit, column, before, field, fields, line, lines}
 use Rattle.columns.specs.Reading.{spelledFrom, spelled, same, part, numbers, isLine}
 use Rattle.sheet.specs.CodeSheet.{badLine, numberOn, numbersOn, sheetMap, sheetCoefs, sheetRefusal}
@@ -70,5 +70,5 @@ zero-eight rest frozen cs = row-passed 12 _ (five (firstLine 48 56) rest refl) �
 
 -- every row holds
 pub worked : Worked
-unfolding _⊕_ _⊙_ timesA productBits lowSix theta phi coefficient atKernel atKernels atLayer layer layers transform refusalOf outside anyOutside unequal tabulate joined sumTo leastTo least lessLeast chip symbolChip turned spreadRefusal hardChip isLost magnitude added raw rawLlrs quantised quantisedLlrs llrs vectorAt frameOf demapRefusal sentSample sentSymbol kindOf ordered checkFrom checkNode sumsFrom sums lessFrom subtractLeast clipped exceeding lowered variableNode clippedEntries smallestTo smallest decision capOf nodes thetaSymbol vectors thetaVector phiVector loweredAt clippedAt clipCount heldAt decidedTo held symbols report count symbolAt restAfter wordBefore codewordOf numbersOf withPlace messageOf numberSamples messageSamples messageFrame sheetRefusal sheetMap sheetCoefs badLine numberOn numbersOn part isLine same line fields field before column digit numbers spelled spelledFrom anyTo messageCount messagePlaces placeLine numberLine heldFor otherValue leastOther noZero lines sheetOf sheetWriteRefusal sheetBuffer lineWriteRefusal lineBuffer
+unfolding _⊕_ _⊙_ timesA productBits lowSix theta phi coefficient atKernel atKernels atLayer layer layers transform refusalOf outside anyOutside unequal tabulate joined sumTo leastTo least lessLeast chip symbolChip turned spreadRefusal hardChip isLost magnitude added raw rawLlrs quantised quantisedLlrs llrs vectorAt frameOf demapRefusal sentSample sentSymbol kindOf ordered checkFrom checkNode sumsFrom sums lessFrom subtractLeast clipped exceeding lowered variableNode clippedEntries smallestTo smallest decision capOf nodes thetaSymbol vectors thetaVector phiVector loweredAt clippedAt clipCount takenIn takenOff heldAt decidedTo held symbols report totals count symbolAt restAfter wordBefore codewordOf numbersOf withPlace messageOf numberSamples messageSamples messageFrame sheetRefusal sheetMap sheetCoefs badLine numberOn numbersOn part isLine same line fields field before column digit numbers spelled spelledFrom anyTo messageCount messagePlaces placeLine numberLine heldFor otherValue leastOther noZero lines sheetOf sheetWriteRefusal sheetBuffer lineWriteRefusal lineBuffer
 worked = record { rows-hold = refl; samples-sent = refl; premise-fails = fails; premise-holds = holds; nine-gives-1 = nine; zero-eight-gives-12 = zero-eight }

@@ -16,7 +16,7 @@ use Rattle.demapper.specs.Demap.{demapRefusal, Demapped}
 use Rattle.demapper.specs.Noiseless.{numberSamples}
 use Rattle.sheet.specs.CodeSheet.{SheetRead}
 use Rattle.sheet.specs.declared.code_sheet.Answer.the-variants.{Layers}
-use Rattle.decoder_refusal.specs.Refusals.{Settings, Lent, decodeRefusal}
+use Rattle.decoder_refusal.specs.Refusals.{Settings, Lent, BuffersFit, decodeRefusal}
 
 -- a sheet that `read_sheet` accepted: `decode`, given n and the first N and n × N/2 bytes of the two buffers, does not
 -- refuse it by 1, 4, 5 or 6, whatever else it is given
@@ -54,5 +54,4 @@ pub record FrameAccepted (base top bottom : ℕ) (samples : List ℤ) (before fr
       → decodeRefusal code settings frame lent ≡ 9 → ⊥
   pub accepted : Demapped base top bottom (settings .qc) samples before frame 0 → IsCode code
       → length samples ≡ 64 * 2 ^ code .n → Within (settings .qc) 13 (settings .qm)
-      → length (lent .work) ≡ 65 * 2 ^ code .n → length (lent .symbols) ≡ 2 ^ code .n
-      → length (lent .report) ≡ 64 * 2 ^ code .n → decodeRefusal code settings frame lent ≡ 0
+      → BuffersFit (2 ^ code .n) lent → decodeRefusal code settings frame lent ≡ 0

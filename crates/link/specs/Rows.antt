@@ -18,7 +18,7 @@ use Rattle.demapper.specs.Samples.{lost}
 use Rattle.demapper.specs.Demap.{frameOf, demapRefusal}
 use Rattle.demapper.specs.Noiseless.{sentSymbol}
 use Rattle.scms.specs.Mode.{Mode, modeOf}
-use Rattle.scms.specs.Decoder.{held, symbols, report, count}
+use Rattle.scms.specs.Decoder.{held, symbols, report, totals, count}
 use Rattle.decoder_refusal.specs.Refusals.{settingsOf}
 use Rattle.sheet.specs.CodeSheet.{sheetLayers, sheetMap, sheetCoefs, formTable, sheetRefusal}
 use Rattle.writer.specs.CodeSheet.{sheetOf, sheetBuffer}
@@ -90,26 +90,30 @@ abbrev pub workedCode : (coef : ℕ) → Code
 workedCode coef = codeOf 1 (1 ∷ 0 ∷ []) (coef ∷ [])
 
 -- N = 2, coefficient 1, place 0 frozen; first vector 0 at 5, else 1; second 0 at 4, else 1 (the caps of Qm = 1 and of
--- Qm = 13). Place 0 is 0 with penalty 1 held; place 1 has 0 at 4 and 5, 1 elsewhere, and is 4
+-- Qm = 13). Place 0 is 0 with penalty 1 held; place 1 has 0 at 4 and 5, 1 elsewhere, and is 4. No word with 0 in place 0
+-- has a total below 1
 abbrev pub decoderRows : Mode → List Row
 decoderRows mode =
     let frame = zeroAt 5 1 ++ zeroAt 4 1 in
     record { given = symbols (workedCode 1) mode frame; expected = 0 ∷ 4 ∷ [] }
     ∷ record { given = heldFor (workedCode 1) mode frame 0 ∷ []; expected = 1 ∷ [] }
     ∷ record { given = held (workedCode 1) mode frame 1; expected = set (set (replicate 64 1) 4 0) 5 0 }
+    ∷ record { given = totals (workedCode 1) mode frame; expected = 0 ∷ 1 ∷ [] }
     ∷ []
 
 -- the sheet 1, 1, 0, 2 (n = 1, place 0 frozen, coefficient 2); first vector 0 at 33, else 3; second 0 at 1, else 3. The
 -- symbols are 0 and 33. At Qm = 13, for each place the penalty held for its symbol and that held for every other value
--- are 0 and 3, 0 and 6, and the count is 0. With Qc = Qm = 2 the 6 becomes 3 and the count is 63
+-- are 0 and 3, 0 and 6, and the count is 0. With Qc = Qm = 2 the 6 becomes 3 and the count is 63. Nothing is taken off
 abbrev pub sheetRows : List Row
 sheetRows =
     let frame = zeroAt 33 3 ++ zeroAt 1 3 in
     record { given = symbols (workedCode 2) (modeOf 13) frame; expected = 0 ∷ 33 ∷ [] }
     ∷ record { given = report (workedCode 2) (modeOf 13) frame; expected = zeroAt 0 3 ++ zeroAt 33 6 }
+    ∷ record { given = totals (workedCode 2) (modeOf 13) frame; expected = 0 ∷ 0 ∷ [] }
     ∷ record { given = count (workedCode 2) (modeOf 13) frame ∷ []; expected = 0 ∷ [] }
     ∷ record { given = symbols (workedCode 2) (modeOf 2) frame; expected = 0 ∷ 33 ∷ [] }
     ∷ record { given = report (workedCode 2) (modeOf 2) frame; expected = zeroAt 0 3 ++ zeroAt 33 3 }
+    ∷ record { given = totals (workedCode 2) (modeOf 2) frame; expected = 0 ∷ 0 ∷ [] }
     ∷ record { given = count (workedCode 2) (modeOf 2) frame ∷ []; expected = 63 ∷ [] }
     ∷ []
 

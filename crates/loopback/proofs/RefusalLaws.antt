@@ -12,6 +12,7 @@ use Rattle.polar_code.specs.Code.{messagePlaces, codeSizes}
 use Rattle.polar_code.specs.Sizes.{placesOf}
 use Rattle.polar_code.proofs.CodeLaws.{rows-code, code-sizes, code-bytes, after-sizes}
 use Rattle.ccsk.specs.Chips.{turned}
+use Rattle.decoder_refusal.proofs.RefusalLaws.{rows-buffers, buffers-rows}
 use Rattle.link.specs.Noiseless.{Transmission, Reception}
 use Rattle.loopback.specs.Refusals.{TripLent, tripRows, sizeTable, contentTable, tripRefusal, TripInput}
 
@@ -62,6 +63,7 @@ module _ (s : Transmission) (r : Reception) (lent : TripLent) where
       let parts = accepted-both sizes contents sizes-numbered contents-numbered e in
       let lengths = parts .0 in
       let rooms = lengths .1 .1 .1 in
+      let decoder = rooms .1 .1 .1 in
       let precisions = parts .1 in
       let bytes = precisions .1 .1 in
       let sent = bytes .1 .1 .1 in
@@ -81,10 +83,8 @@ module _ (s : Transmission) (r : Reception) (lent : TripLent) where
         };
         samples-long = false-equal (length (lent .samples)) (64 * size) (rooms .1 .0);
         frame-long = false-equal (length (lent .frame)) (64 * size) (rooms .1 .1 .0);
-        work-long = false-equal (length (lent .decoder .work)) (65 * size) (rooms .1 .1 .1 .0);
-        symbols-long = false-equal (length (lent .decoder .symbols)) size (rooms .1 .1 .1 .1 .0);
-        report-long = false-equal (length (lent .decoder .report)) (64 * size) (rooms .1 .1 .1 .1 .1 .0);
-        decoded-long = false-equal (length (lent .decoded)) places (rooms .1 .1 .1 .1 .1 .1 .0);
+        buffers = rows-buffers size (lent .frame) (lent .decoder) (decoder .0, (decoder .1 .0, (decoder .1 .1 .0, (decoder .1 .1 .1 .0, tt))));
+        decoded-long = false-equal (length (lent .decoded)) places (decoder .1 .1 .1 .1 .0);
       }
 
   -- and the other way round
@@ -97,11 +97,10 @@ module _ (s : Transmission) (r : Reception) (lent : TripLent) where
       let message-fits = equal-false (length (s .message)) places (k .message-long) in
       let samples-room = equal-false (length (lent .samples)) (64 * size) (t .samples-long) in
       let frame-room = equal-false (length (lent .frame)) (64 * size) (t .frame-long) in
-      let work-room = equal-false (length (lent .decoder .work)) (65 * size) (t .work-long) in
-      let symbols-room = equal-false (length (lent .decoder .symbols)) size (t .symbols-long) in
-      let report-room = equal-false (length (lent .decoder .report)) (64 * size) (t .report-long) in
+      let decoder = buffers-rows size (lent .frame) (lent .decoder) (t .buffers) in
       let decoded-room = equal-false (length (lent .decoded)) places (t .decoded-long) in
-      let buffers : NoneFits (drop 4 sizes) = (samples-room, (frame-room, (work-room, (symbols-room, (report-room, (decoded-room, tt)))))) in
+      let buffers : NoneFits (drop 4 sizes)
+      = (samples-room, (frame-room, (decoder .0, (decoder .1 .0, (decoder .1 .1 .0, (decoder .1 .1 .1 .0, (decoded-room, tt))))))) in
       let qc-fits = within-inside 1 5 (r .settings .qc) (c .channel-precision) in
       let qm-fits = within-inside (r .settings .qc) 13 (r .settings .qm) (c .internal-precision) in
       let bytes = code-bytes (s .code) (k .is-code) in

@@ -20,7 +20,7 @@ use Rattle.link.specs.Noiseless.{Transmission, Reception, messageSamples, messa
 use Rattle.link.proofs.Accepted.{demappable, is-demapped, frame-accepted}
 use Rattle.link.proofs.Noiseless.{noiseless-statement}
 use Rattle.loopback.specs.Refusals.{TripLent, tripRefusal, TripInput}
-use Rattle.loopback.specs.RoundTrip.{tripAnswer, tripSamples, tripFrame, tripWork, tripSymbols, tripReport, tripDecoded, RoundTrip}
+use Rattle.loopback.specs.RoundTrip.{tripAnswer, tripSamples, tripFrame, tripWork, tripSymbols, tripReport, tripTotals, tripDecoded, RoundTrip}
 use Rattle.loopback.specs.Parts.{Reading, Sending}
 use Rattle.loopback.proofs.RefusalLaws.{accepted, accepts}
 
@@ -37,11 +37,11 @@ module _ (s : Transmission) (r : Reception) (lent : TripLent) where
   promise : {after : TripLent} {a : Answer} → returned a ≡ tripAnswer s r lent
       → after .samples ≡ tripSamples s r lent → after .frame ≡ tripFrame s r lent
       → after .decoder .work ≡ tripWork s r lent → after .decoder .symbols ≡ tripSymbols s r lent
-      → after .decoder .report ≡ tripReport s r lent → after .decoded ≡ tripDecoded s r lent
+      → after .decoder .report ≡ tripReport s r lent → after .decoder .totals ≡ tripTotals s r lent → after .decoded ≡ tripDecoded s r lent
       → (refusal ≡ 0 → Decoded (s .code) (r .settings) (after .frame) (lent .decoder) (after .decoder) a)
       → RoundTrip s r lent after a
   unfolding tripSymbols tripDecoded
-  promise ea es ef ew ey er ed d =
+  promise ea es ef ew ey er et ed d =
       let made = messageSymbols s r in
       let back : (e : refusal ≡ 0) → NoiselessPremise s r → GivenBack s r = λ e. noiseless-statement s r (accepted s r lent e .chain) in
       record {
@@ -51,6 +51,7 @@ module _ (s : Transmission) (r : Reception) (lent : TripLent) where
         work-is = ew;
         symbols-are = ey;
         report-is = er;
+        totals-are = et;
         decoded-is = ed;
         decoder = d;
         word-back = λ e p. ey ∙ when-accepted refusal made (lent .decoder .symbols) e ∙ back e p .word-back;
@@ -59,7 +60,7 @@ module _ (s : Transmission) (r : Reception) (lent : TripLent) where
 
   -- a refusal: its number, and every buffer as it came
   pub promise-refused : {number : ℕ} → number ≡ refusal → (number ≡ 0 → ⊥) → RoundTrip s r lent lent (Refused number)
-  unfolding returned tripAnswer tripSamples tripFrame tripWork tripSymbols tripReport tripDecoded
+  unfolding returned tripAnswer tripSamples tripFrame tripWork tripSymbols tripReport tripTotals tripDecoded
   promise-refused {number} e ne =
       let demapped = messageFrame s r in
       let h : (refusal ≡ 0 → ⊥) = λ z. ne (e ∙ z) in
@@ -70,6 +71,7 @@ module _ (s : Transmission) (r : Reception) (lent : TripLent) where
       (sym (when-refused refusal (replicate (65 * 2 ^ s .code .n) 0) (lent .decoder .work) h))
       (sym (when-refused refusal (messageSymbols s r) (lent .decoder .symbols) h))
       (sym (when-refused refusal (scms.report (s .code) mode demapped) (lent .decoder .report) h))
+      (sym (when-refused refusal (scms.totals (s .code) mode demapped) (lent .decoder .totals) h))
       (sym (when-refused refusal (messageOf (s .code .map) (messageSymbols s r)) (lent .decoded) h))
       (λ z. absurd (h z))
 
@@ -93,7 +95,7 @@ module _ (s : Transmission) (r : Reception) (lent : TripLent) where
 
     -- what `read_message` is given
     pub reading : {symbols′ : List ℕ} → length symbols′ ≡ length (lent .decoder .symbols) → Reading (s .code .map) symbols′ (lent .decoded)
-    reading l = record { places = l ∙ t .symbols-long ∙ sym (t .chain .sendable .is-code .map-long); room = t .decoded-long }
+    reading l = record { places = l ∙ t .buffers .symbols-long ∙ sym (t .chain .sendable .is-code .map-long); room = t .decoded-long }
 
     -- after `send` and `demap`: the samples, the frame and what `demap` answered
     module _ {samples′ : List ℤ} (is : samples′ ≡ messageSamples s) (long : length samples′ ≡ length (lent .samples)) {frame′ : List ℕ} {q : ℕ}
@@ -119,13 +121,13 @@ module _ (s : Transmission) (r : Reception) (lent : TripLent) where
       decode-accepts : decodeRefusal (s .code) (r .settings) frame′ (lent .decoder) ≡ 0
       decode-accepts =
           frame-accepted (s .base) (r .top) (r .bottom) samples′ (lent .frame) frame′ (s .code) (r .settings) (lent .decoder) .accepted demapped-so
-          (t .chain .sendable .is-code) (long ∙ t .samples-long) (t .chain .internal-precision) (t .work-long) (t .symbols-long) (t .report-long)
+          (t .chain .sendable .is-code) (long ∙ t .samples-long) (t .chain .internal-precision) (t .buffers)
 
       -- after `decode` and `read_message`: all that is promised
       pub promise-accepted : {after : Lent} {decoded′ : List ℕ} {a : Answer} → Decoded (s .code) (r .settings) frame′ (lent .decoder) after a
           → decoded′ ≡ messageOf (s .code .map) (after .symbols)
           → RoundTrip s r lent (record { samples = samples′; frame = frame′; decoder = after; decoded = decoded′ }) a
-      unfolding tripAnswer tripSamples tripFrame tripWork tripSymbols tripReport tripDecoded decodeWork decodeReport
+      unfolding tripAnswer tripSamples tripFrame tripWork tripSymbols tripReport tripTotals tripDecoded decodeWork decodeReport
       promise-accepted p m =
           let k = decode-accepts in
           let kr = decodeRefusal (s .code) (r .settings) frame′ (lent .decoder) in
@@ -140,5 +142,6 @@ module _ (s : Transmission) (r : Reception) (lent : TripLent) where
           (decided ∙ sym (when-accepted refusal (messageSymbols s r) (lent .decoder .symbols) none))
           (p .report-is ∙ when-accepted kr (scms.report (s .code) mode _) (lent .decoder .report) k ∙ ap (scms.report (s .code) mode) at-frame
           ∙ sym (when-accepted refusal (scms.report (s .code) mode demapped) (lent .decoder .report) none))
+          (p .totalled k ∙ ap (scms.totals (s .code) mode) at-frame ∙ sym (when-accepted refusal (scms.totals (s .code) mode demapped) (lent .decoder .totals) none))
           (m ∙ ap (messageOf (s .code .map)) decided ∙ sym (when-accepted refusal (messageOf (s .code .map) (messageSymbols s r)) (lent .decoded) none))
           (λ z. p)

@@ -73,9 +73,7 @@ module _ (code : Code) (frame output : List ℕ) where
         (record {
           is-code = listable .is-code;
           frame-long = listable .frame-long;
-          work-long = given .work-long;
-          symbols-long = given .symbols-long;
-          report-long = given .report-long;
+          buffers = given .buffers;
           channel-precision = record { least = lit≤ tt; most = lit≤ tt };
           internal-precision = record { least = lit≤ tt; most = lit≤ tt };
           is-frame = listable .is-frame;
@@ -92,5 +90,5 @@ module _ (code : Code) (frame output : List ℕ) where
         let same : (i : ℕ) → i < 2 ^ code .n → line i ≡ lineAt code frame i = λ i l.
         ap₂ (λ (s : ℕ) (v : List ℕ). placeLine i s v) (ap (λ (xs : List ℕ). getD xs i 0) (done .decided decodes)) (done .reported decodes i l) in
         ap₂ (λ (xs ys : List ℕ). xs ++ ys)
-        (ap (λ (k : ℕ). joined k line) (kept ∙ given .symbols-long) ∙ joined-ext (2 ^ code .n) line (lineAt code frame) same)
+        (ap (λ (k : ℕ). joined k line) (kept ∙ given .buffers .symbols-long) ∙ joined-ext (2 ^ code .n) line (lineAt code frame) same)
         (ap numberLine (e ∙ ap (λ (x : Returned). getD (x .values) 0 0) (done .counted decodes)))

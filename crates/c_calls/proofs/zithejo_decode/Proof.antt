@@ -28,8 +28,8 @@ unfolding returned firstOr
 count-refused count is = sym (ap (λ (a : Answer). firstOr (returned a .values) count) is)
 
 -- the place after the call of the decoder, from that where the answer is matched
-abbrev called : tie.After-slice-known6 → tie.After-decode
-called c = c .before .before .before .before .before .before
+abbrev called : tie.After-slice-known8 → tie.After-decode
+called c = c .before .before .before .before .before .before .before .before
 
 returns : tie.Need-returns
 returns c =
@@ -57,7 +57,7 @@ pub zithejo-decode-spec : {M : Type 1} → statement M
 zithejo-decode-spec =
     tie.close (tie.spec
     (λ c κs. search needs) (λ c. search needs) (λ c. search needs) (λ c. search needs) (λ c. search needs)
-    (λ c. search needs)
+    (λ c. search needs) (λ c. search needs)
     returns
-    (λ c. search needs) (λ c. search needs) (λ c. search needs)
+    (λ c. search needs) (λ c. search needs) (λ c. search needs) (λ c. search needs)
     returns-2)

@@ -8,7 +8,7 @@ use Rattle.loopback.proofs.chain.round_trip.Tie as tie
 
 -- the entry, from the place after the test for a refusal
 abbrev entry : tie.Else1 → tie.Start
-entry c = c .before .before .before .before .before .before .before .before .before .before .before .before .before .before .before .before
+entry c = c .before .before .before .before .before .before .before .before .before .before .before .before .before .before .before .before .before .before
 
 -- from the places after `send`, `demap` and `decode` to the ones before them
 abbrev to-fork : tie.After-send → tie.Else1
@@ -18,11 +18,11 @@ abbrev to-send : tie.After-demap → tie.After-send
 to-send c = c .before .before .before .before
 
 abbrev to-demap : tie.After-decode → tie.After-demap
-to-demap c = c .before .before .before .before .before .before .before
+to-demap c = c .before .before .before .before .before .before .before .before
 
 -- and the place after `decode`, from the one where `read_message` is called
 abbrev to-decode : tie.After-read-message-arg2 → tie.After-decode
-to-decode c = c .before .before .before .before .before .before .before .before
+to-decode c = c .before .before .before .before .before .before .before .before .before .before
 
 -- what the call was given: what is sent, how it is received, and the buffers
 abbrev sent : tie.Start → Transmission
@@ -32,7 +32,7 @@ abbrev received : tie.Start → Reception
 received s = receptionOf (s .args .top) (s .args .bottom) (s .args .qc) (s .args .qm)
 
 abbrev lent : tie.Start → TripLent
-lent s = tripLentOf (s .args .samples .now) (s .args .frame .now) (s .args .work .now) (s .args .symbols .now) (s .args .report .now) (s .args .decoded .now)
+lent s = tripLentOf (s .args .samples .now) (s .args .frame .now) (s .args .work .now) (s .args .symbols .now) (s .args .report .now) (s .args .totals .now) (s .args .decoded .now)
 
 -- it is accepted
 input : (c : tie.Else1) → TripInput (sent (entry c)) (received (entry c)) (lent (entry c))
@@ -60,6 +60,7 @@ round-trip-spec =
     (λ c. search needs)
     (λ c. search needs)
     (λ c. search needs)
+    (λ c. search needs)
     (λ c. promise-refused _ _ _ (c .before .trip-refusal .ensures) (c .if1 .taken))
     (λ c κs. let e = c .before in sending (sent (entry e)) (received (entry e)) (lent (entry e)) (input e))
     (λ c κs. tt)
@@ -68,6 +69,7 @@ round-trip-spec =
     let decoded = to-decode c in
     let e = to-fork (to-send (to-demap decoded)) in
     reading (sent (entry e)) (received (entry e)) (lent (entry e)) (input e) (decoded .decode .kept .1 .1 .1 .1 .1 .1 .1 .0))
+    (λ c. search needs)
     (λ c. search needs)
     (λ c. search needs)
     (λ c. search needs)

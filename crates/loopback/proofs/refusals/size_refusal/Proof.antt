@@ -11,9 +11,10 @@ use Rattle.loopback.proofs.refusals.size_refusal.Tie as tie
 
 returns : tie.Need-returns
 unfolding unequal
-returns c7 =
+returns c8 =
     let s : tie.Start = search needs in
     let a = s .args in
+    let c7 = c8 .before in
     let c6 = c7 .before in
     let c5 = c6 .before in
     let c4 = c5 .before in
@@ -22,7 +23,8 @@ returns c7 =
     let c1 = c2 .before in
     let c0 = c1 .before in
     buffers-tried (transmissionOf (a .n) (a .map .now) (a .coefs .now) (a .message .now) 0 0)
-    (tripLentOf (a .samples .now) (a .frame .now) (a .work .now) (a .symbols .now) (a .report .now) (a .decoded .now)) (walked (call 3 ∷ []) _ tt (simp (
+    (tripLentOf (a .samples .now) (a .frame .now) (a .work .now) (a .symbols .now) (a .report .now) (a .totals .now) (a .decoded .now)) (walked (call 3 ∷ []) _ tt (simp (
+      c8 .first8 .ensures,
       c7 .first7 .ensures,
       c6 .first6 .ensures,
       c5 .first5 .ensures,
@@ -46,5 +48,6 @@ size-refusal-spec =
     (λ c. search needs) (λ c κs. tt)
     (λ c κs. tt)
     (λ c. search needs) (λ c κs. tt)
+    (λ c κs. tt)
     (λ c κs. tt)
     returns)

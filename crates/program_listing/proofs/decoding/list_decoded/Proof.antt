@@ -15,18 +15,18 @@ use Rattle.program_listing.proofs.decoding.list_decoded.Tie as tie
 
 -- the entry, from the place after the call of the decoder
 abbrev entry : tie.After-decode → tie.Start
-entry c = c .before .before .before .before .before .before .before .before .before .before .before
+entry c = c .before .before .before .before .before .before .before .before .before .before .before .before .before
 
 -- that place, from the one where the listing is written
 abbrev to-decode : tie.After-write-listing-arg3 → tie.After-decode
-to-decode c = c .before .before .before .before .before .before .before .before .before .before
+to-decode c = c .before .before .before .before .before .before .before .before .before .before .before .before
 
 -- the code and the buffers that it was given
 abbrev code : tie.Start → Code
 code s = codeOf (s .args .n) (s .args .map .now) (s .args .coefs .now)
 
 abbrev lent : tie.Start → Lent
-lent s = lentOf (s .args .work .now) (s .args .symbols .now) (s .args .report .now)
+lent s = lentOf (s .args .work .now) (s .args .symbols .now) (s .args .report .now) (s .args .totals .now)
 
 -- the symbols that the decoder leaves are N
 symbols-kept : (c : tie.After-decode) → length (c .decode .last .1 .1 .1 .1 .1 .1 .1 .0) ≡ length (entry c .args .symbols .now)
@@ -36,11 +36,11 @@ write-listing-requires : tie.Need-write-listing-requires
 write-listing-requires c κs =
     let done = to-decode c in
     let given = entry done .pre in
-    let symbols-long = symbols-kept done ∙ given .symbols-long in
+    let symbols-long = symbols-kept done ∙ given .buffers .symbols-long in
     let few = pow-mono {i = entry done .args .n} {j = 8} (given .listable .is-code .layers .most) in
     record {
       few = omega arith;
-      report-long = done .decode .kept .1 .1 .1 .1 .1 .1 .1 .1 .0 ∙ given .report-long ∙ ap (λ (k : ℕ). 64 * k) (sym symbols-long);
+      report-long = done .decode .kept .1 .1 .1 .1 .1 .1 .1 .1 .0 ∙ given .buffers .report-long ∙ ap (λ (k : ℕ). 64 * k) (sym symbols-long);
       output-long = given .listable .output-long ∙ ap listingLength (sym symbols-long);
     }
 
@@ -59,5 +59,5 @@ list-decoded-spec =
     (tie.spec
     (λ c κs. search needs) (λ c κs. search needs)
     write-listing-requires
-    (λ c. search needs) (λ c. search needs) (λ c. search needs) (λ c. search needs)
+    (λ c. search needs) (λ c. search needs) (λ c. search needs) (λ c. search needs) (λ c. search needs)
     returns)

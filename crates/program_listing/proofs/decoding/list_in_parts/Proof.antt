@@ -27,6 +27,9 @@ symbols-fit s = let l = few s in let room = s .pre .symbols-room in omega arith
 report-fits : (s : tie.Start) → 64 * length (s .args .map .now) ≤ length (s .args .report .now)
 report-fits s = let l = few s in let room = s .pre .report-room in omega arith
 
+totals-fit : (s : tie.Start) → length (s .args .map .now) ≤ length (s .args .totals .now)
+totals-fit s = let l = few s in let room = s .pre .totals-room in omega arith
+
 -- and these have the lengths asked for
 work-part : (s : tie.Start) → length (take (65 * length (s .args .map .now)) (s .args .work .now)) ≡ 65 * length (s .args .map .now)
 work-part s = length-take-le (65 * length (s .args .map .now)) (s .args .work .now) (work-fits s)
@@ -37,9 +40,12 @@ symbols-part s = length-take-le (length (s .args .map .now)) (s .args .symbols .
 report-part : (s : tie.Start) → length (take (64 * length (s .args .map .now)) (s .args .report .now)) ≡ 64 * length (s .args .map .now)
 report-part s = length-take-le (64 * length (s .args .map .now)) (s .args .report .now) (report-fits s)
 
+totals-part : (s : tie.Start) → length (take (length (s .args .map .now)) (s .args .totals .now)) ≡ length (s .args .map .now)
+totals-part s = length-take-le (length (s .args .map .now)) (s .args .totals .now) (totals-fit s)
+
 -- the entry, from the place where the buffers are known
-abbrev entry : tie.After-slice-known4 → tie.Start
-entry c = c .before .before .before .before .before .before .before
+abbrev entry : tie.After-slice-known5 → tie.Start
+entry c = c .before .before .before .before .before .before .before .before
 
 slice-relend-prefix-list-decoded : tie.Need-slice-relend-prefix-list-decoded
 slice-relend-prefix-list-decoded c = work-fits (entry c)
@@ -59,15 +65,24 @@ slice-relend-prefix-list-decoded-3 c = report-fits (entry (c .before .before))
 slice-aggregate-list-decoded-3 : tie.Need-slice-aggregate-list-decoded-3
 slice-aggregate-list-decoded-3 c = sym (report-part (entry (c .before .before .before)))
 
+slice-relend-prefix-list-decoded-4 : tie.Need-slice-relend-prefix-list-decoded-4
+slice-relend-prefix-list-decoded-4 c = totals-fit (entry (c .before .before .before))
+
+slice-aggregate-list-decoded-4 : tie.Need-slice-aggregate-list-decoded-4
+slice-aggregate-list-decoded-4 c = sym (totals-part (entry (c .before .before .before .before)))
+
 list-decoded-requires : tie.Need-list-decoded-requires
 list-decoded-requires c κs =
-    let s = entry (c .before .before .before .before) in
+    let s = entry (c .before .before .before .before .before) in
     let long = s .pre .listable .is-code .map-long in
     record {
       listable = s .pre .listable;
-      work-long = work-part s ∙ ap (λ (k : ℕ). 65 * k) long;
-      symbols-long = symbols-part s ∙ long;
-      report-long = report-part s ∙ ap (λ (k : ℕ). 64 * k) long;
+      buffers = record {
+        work-long = work-part s ∙ ap (λ (k : ℕ). 65 * k) long;
+        symbols-long = symbols-part s ∙ long;
+        report-long = report-part s ∙ ap (λ (k : ℕ). 64 * k) long;
+        totals-long = totals-part s ∙ long;
+      };
     }
 
 pub list-in-parts-spec : {M : Type 1} → statement M
@@ -81,6 +96,8 @@ list-in-parts-spec =
     slice-aggregate-list-decoded-2
     slice-relend-prefix-list-decoded-3
     slice-aggregate-list-decoded-3
+    slice-relend-prefix-list-decoded-4
+    slice-aggregate-list-decoded-4
     list-decoded-requires
-    (λ c. search needs) (λ c. search needs) (λ c. search needs) (λ c. search needs)
+    (λ c. search needs) (λ c. search needs) (λ c. search needs) (λ c. search needs) (λ c. search needs)
     (λ c. search needs))
