@@ -240,10 +240,11 @@ INLINE void add_theta(vec *sums, const uint16_t *theta, size_t u)
     }
 }
 
-/* A variable node; returns count less 1 in a lane for each entry clipped. */
+/* A variable node; returns count less 1 in a lane for each entry clipped, and
+ * adds what it takes off to each lane of taken. */
 INLINE vec variable_node(uint16_t *out, const uint16_t *theta,
                          const uint16_t *phi, const uint8_t *row, size_t u,
-                         vec cap, vec count)
+                         vec cap, vec count, vec *taken)
 {
     vec sums[8], least, v;
 #pragma GCC unroll 8
@@ -257,6 +258,7 @@ INLINE vec variable_node(uint16_t *out, const uint16_t *theta,
         least = _mm_min_epi16(least, sums[i]);
     }
     least = least_lane(least);
+    *taken = _mm_add_epi16(*taken, least);
 #pragma GCC unroll 8
     for (int i = 0; i < 8; i++) {
         v = _mm_sub_epi16(sums[i], least);
@@ -266,17 +268,21 @@ INLINE vec variable_node(uint16_t *out, const uint16_t *theta,
     return count;
 }
 
-/* The variable nodes of a block's kernels; word has the first half's word. */
-static vec variable_nodes(uint16_t *out, const uint16_t *held,
-                          const uint8_t *coefs, size_t half,
-                          const uint8_t *word, vec cap, vec count)
+/* The variable nodes of a block's kernels; word has the first half's word.
+ * Returns what all of them took off, and counts in *count. */
+static uint16_t variable_nodes(uint16_t *out, const uint16_t *held,
+                               const uint8_t *coefs, size_t half,
+                               const uint8_t *word, vec cap, vec *count)
 {
     const uint16_t *phi = held + 64 * half;
+    vec clipped = *count, taken = _mm_setzero_si128();
     for (size_t i = 0; i < half; i++) {
-        count = variable_node(out + 64 * i, held + 64 * i, phi + 64 * i,
-                              products[coefs[i]], word[i], cap, count);
+        clipped = variable_node(out + 64 * i, held + 64 * i, phi + 64 * i,
+                                products[coefs[i]], word[i], cap, clipped,
+                                &taken);
     }
-    return count;
+    *count = clipped;
+    return (uint16_t)_mm_extract_epi16(taken, 0);
 }
 
 /* --- Decoding by halves -------------------------------------------------- */
@@ -291,7 +297,7 @@ struct call {
     size_t places;
     const uint8_t *map;
     uint8_t *symbols;
-    uint16_t *report;
+    uint16_t *report, *totals;
     uint8_t word[MOST_PLACES];
 };
 
@@ -303,9 +309,10 @@ INLINE uint64_t zeros(const uint16_t *penalties)
     return (uint64_t)(uint32_t)_mm_movemask_epi8(equal);
 }
 
-/* Decide a place from its report.  A vector of a node always has a 0, so the
- * smallest value of least penalty is the first 0. */
-INLINE void decide(struct call *call, size_t place)
+/* Decide a place from its report, and write what was taken off along its line.
+ * A vector of a node always has a 0, so the smallest value of least penalty is
+ * the first 0. */
+INLINE void decide(struct call *call, size_t place, uint16_t taken)
 {
     const uint16_t *held = call->report + 64 * place;
     size_t symbol = 0;
@@ -316,6 +323,7 @@ INLINE void decide(struct call *call, size_t place)
     }
     call->symbols[place] = (uint8_t)symbol;
     call->word[place] = (uint8_t)symbol;
+    call->totals[place] = taken;
 }
 
 /* Join the words of the two halves of a block by its kernels. */
@@ -329,29 +337,30 @@ INLINE void join(uint8_t *word, const uint8_t *coefs, size_t half)
 }
 
 /* Decode the block of 2 * half places from place, whose vectors on the
- * channel's side are held.  Coefs are those of its layer from its first kernel;
- * those of the block's later layers begin at coefs plus multiples of N/2. */
+ * channel's side are held, and in whose lines taken was taken off before.
+ * Coefs are those of its layer from its first kernel; those of the block's
+ * later layers begin at coefs plus multiples of N/2. */
 static void decode_block(struct call *call, size_t half, size_t place,
-                         const uint8_t *coefs, const uint16_t *held,
-                         uint16_t *scratch)
+                         uint16_t taken, const uint8_t *coefs,
+                         const uint16_t *held, uint16_t *scratch)
 {
     uint8_t *word = call->word + place;
     if (half == 1) {
         uint16_t *out = call->report + 64 * place;
         check_nodes(out, held, coefs, 1, call->differences);
-        decide(call, place);
-        call->count = variable_nodes(out + 64, held, coefs, 1, word,
-                                     call->cap, call->count);
-        decide(call, place + 1);
+        decide(call, place, taken);
+        taken += variable_nodes(out + 64, held, coefs, 1, word, call->cap,
+                                &call->count);
+        decide(call, place + 1, taken);
     } else {
         const uint8_t *next = coefs + call->places / 2;
         uint16_t *deeper = scratch + 64 * half;
         check_nodes(scratch, held, coefs, half, call->differences);
-        decode_block(call, half / 2, place, next, scratch, deeper);
-        call->count = variable_nodes(scratch, held, coefs, half, word,
-                                     call->cap, call->count);
-        decode_block(call, half / 2, place + half, next + half / 2, scratch,
-                     deeper);
+        decode_block(call, half / 2, place, taken, next, scratch, deeper);
+        taken += variable_nodes(scratch, held, coefs, half, word, call->cap,
+                                &call->count);
+        decode_block(call, half / 2, place + half, taken, next + half / 2,
+                     scratch, deeper);
     }
     /* No variable node reads the word of a block that ends with the frame. */
     if (place + 2 * half < call->places) {
@@ -472,7 +481,8 @@ static uint8_t decode_refusal(size_t n, const uint8_t *map, size_t map_len,
                               const uint8_t *coefs, size_t coefs_len,
                               uint32_t qc, uint32_t qm, const uint16_t *frame,
                               size_t frame_len, size_t work_len,
-                              size_t symbols_len, size_t report_len)
+                              size_t symbols_len, size_t report_len,
+                              size_t totals_len)
 {
     if (n < 1 || n > 8) {
         return 1;
@@ -480,7 +490,8 @@ static uint8_t decode_refusal(size_t n, const uint8_t *map, size_t map_len,
     size_t places = (size_t)1 << n;
     if (map_len != places || coefs_len != n * (places / 2) ||
         frame_len != 64 * places || work_len != 65 * places ||
-        symbols_len != places || report_len != 64 * places) {
+        symbols_len != places || report_len != 64 * places ||
+        totals_len != places) {
         return 2;
     }
     if (qc < 1 || qc > 5 || qm < qc || qm > 13) {
@@ -494,14 +505,15 @@ static uint8_t decode_refusal(size_t n, const uint8_t *map, size_t map_len,
 /* Decode a frame that is taken, with the check nodes in either form. */
 static void decode(size_t n, const uint8_t *map, const uint8_t *coefs,
                    uint32_t qm, const uint16_t *frame, uint16_t *work,
-                   uint8_t *symbols, uint16_t *report, uint32_t *count,
-                   int differences)
+                   uint8_t *symbols, uint16_t *report, uint16_t *totals,
+                   uint32_t *count, int differences)
 {
     size_t places = (size_t)1 << n;
     struct call call = {.cap = _mm_set1_epi16((short)((1 << qm) - 1)),
                         .differences = differences, .places = places,
-                        .map = map, .symbols = symbols, .report = report};
-    decode_block(&call, places / 2, 0, coefs, frame, work);
+                        .map = map, .symbols = symbols, .report = report,
+                        .totals = totals};
+    decode_block(&call, places / 2, 0, 0, coefs, frame, work);
     clear(work, places);
     vec sums = _mm_madd_epi16(call.count, _mm_set1_epi16(-1));
     sums = _mm_add_epi32(sums, _mm_shuffle_epi32(sums, 0x4E));
@@ -509,19 +521,21 @@ static void decode(size_t n, const uint8_t *map, const uint8_t *coefs,
     *count = (uint32_t)_mm_cvtsi128_si32(sums);
 }
 
-/* Decode a frame: the symbols, the report and the count of clipped entries. */
+/* Decode a frame: the symbols, the report, the totals and the count of clipped
+ * entries. */
 uint8_t blocked_decode(size_t n, const uint8_t *map, size_t map_len,
                        const uint8_t *coefs, size_t coefs_len, uint32_t qc,
                        uint32_t qm, const uint16_t *frame, size_t frame_len,
                        uint16_t *work, size_t work_len, uint8_t *symbols,
                        size_t symbols_len, uint16_t *report, size_t report_len,
-                       uint32_t *count)
+                       uint16_t *totals, size_t totals_len, uint32_t *count)
 {
     uint8_t refusal = decode_refusal(n, map, map_len, coefs, coefs_len, qc, qm,
                                      frame, frame_len, work_len, symbols_len,
-                                     report_len);
+                                     report_len, totals_len);
     if (refusal == 0) {
-        decode(n, map, coefs, qm, frame, work, symbols, report, count, 0);
+        decode(n, map, coefs, qm, frame, work, symbols, report, totals, count,
+               0);
     }
     return refusal;
 }
@@ -531,13 +545,15 @@ uint8_t blocked_decode_differences(
     size_t n, const uint8_t *map, size_t map_len, const uint8_t *coefs,
     size_t coefs_len, uint32_t qc, uint32_t qm, const uint16_t *frame,
     size_t frame_len, uint16_t *work, size_t work_len, uint8_t *symbols,
-    size_t symbols_len, uint16_t *report, size_t report_len, uint32_t *count)
+    size_t symbols_len, uint16_t *report, size_t report_len, uint16_t *totals,
+    size_t totals_len, uint32_t *count)
 {
     uint8_t refusal = decode_refusal(n, map, map_len, coefs, coefs_len, qc, qm,
                                      frame, frame_len, work_len, symbols_len,
-                                     report_len);
+                                     report_len, totals_len);
     if (refusal == 0) {
-        decode(n, map, coefs, qm, frame, work, symbols, report, count, 1);
+        decode(n, map, coefs, qm, frame, work, symbols, report, totals, count,
+               1);
     }
     return refusal;
 }

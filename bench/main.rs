@@ -14,7 +14,7 @@ use std::time::{Duration, Instant};
 type EncodeCall = fn(usize, &[u8], &[u8], &[u8], &mut [u8]) -> u8;
 type DemapCall = fn(u64, &[i8], u32, u32, u32, &mut [u16]) -> u8;
 type DecodeCall = fn(
-    usize, &[u8], &[u8], u32, u32, &[u16], &mut [u16], &mut [u8], &mut [u16], &mut u32,
+    usize, &[u8], &[u8], u32, u32, &[u16], &mut [u16], &mut [u8], &mut [u16], &mut [u16], &mut u32,
 ) -> u8;
 
 /// An encoder that is called as C is, with the signature of plain.rs.
@@ -60,21 +60,23 @@ macro_rules! linked_decode {
     ($name:ident) => {
         fn $name(
             n: usize, map: &[u8], coefs: &[u8], qc: u32, qm: u32, frame: &[u16],
-            work: &mut [u16], symbols: &mut [u8], report: &mut [u16], count: &mut u32,
+            work: &mut [u16], symbols: &mut [u8], report: &mut [u16], totals: &mut [u16], count: &mut u32,
         ) -> u8 {
             unsafe extern "C" {
                 fn $name(
                     n: usize, map: *const u8, map_len: usize, coefs: *const u8, coefs_len: usize,
                     qc: u32, qm: u32, frame: *const u16, frame_len: usize,
                     work: *mut u16, work_len: usize, symbols: *mut u8, symbols_len: usize,
-                    report: *mut u16, report_len: usize, count: *mut u32,
+                    report: *mut u16, report_len: usize, totals: *mut u16, totals_len: usize,
+                    count: *mut u32,
                 ) -> u8;
             }
             unsafe {
                 $name(
                     n, map.as_ptr(), map.len(), coefs.as_ptr(), coefs.len(), qc, qm,
                     frame.as_ptr(), frame.len(), work.as_mut_ptr(), work.len(),
-                    symbols.as_mut_ptr(), symbols.len(), report.as_mut_ptr(), report.len(), count,
+                    symbols.as_mut_ptr(), symbols.len(), report.as_mut_ptr(), report.len(),
+                    totals.as_mut_ptr(), totals.len(), count,
                 )
             }
         }
@@ -243,6 +245,7 @@ struct Decode {
     work_len: usize,
     symbols_len: usize,
     report_len: usize,
+    totals_len: usize,
 }
 
 enum Input {
@@ -251,11 +254,12 @@ enum Input {
     Decode(Decode),
 }
 
-/// All a call may write: codeword or symbols, penalties or report, work buffer, count.
+/// All a call may write: codeword or symbols, penalties or report, totals, work buffer, count.
 #[derive(Clone, PartialEq)]
 struct Output {
     bytes: Buffer<u8>,
     wide: Buffer<u16>,
+    totals: Buffer<u16>,
     work: Buffer<u16>,
     count: u32,
 }
@@ -263,14 +267,15 @@ struct Output {
 impl Output {
     /// Buffers of the lengths the input asks for, filled with values no call gives.
     fn new(input: &Input, guard: usize) -> Self {
-        let (bytes, wide, work) = match input {
-            Input::Encode(e) => (e.codeword_len, 0, 0),
-            Input::Demap(d) => (0, d.llrs_len, 0),
-            Input::Decode(d) => (d.symbols_len, d.report_len, d.work_len),
+        let (bytes, wide, totals, work) = match input {
+            Input::Encode(e) => (e.codeword_len, 0, 0, 0),
+            Input::Demap(d) => (0, d.llrs_len, 0, 0),
+            Input::Decode(d) => (d.symbols_len, d.report_len, d.totals_len, d.work_len),
         };
         Output {
             bytes: Buffer::blank(bytes, guard, 0xA5),
             wide: Buffer::blank(wide, guard, 0xA5A5),
+            totals: Buffer::blank(totals, guard, 0xA55A),
             work: Buffer::blank(work, guard, 0x5A5A),
             count: 0xA5A5_A5A5,
         }
@@ -279,7 +284,7 @@ impl Output {
     /// A checksum over all that was written.
     fn checksum(&self) -> u64 {
         let bytes = self.bytes.iter().map(|&byte| byte as u64);
-        let wide = self.wide.iter().chain(self.work.iter()).map(|&entry| entry as u64);
+        let wide = self.wide.iter().chain(self.totals.iter()).chain(self.work.iter()).map(|&entry| entry as u64);
         bytes.chain(wide).chain([self.count as u64]).fold(0xCBF2_9CE4_8422_2325, |sum, value| {
             (sum ^ value).wrapping_mul(0x0000_0100_0000_01B3)
         })
@@ -297,7 +302,7 @@ fn call(maker: &Maker, input: &Input, out: &mut Output) -> Option<u8> {
         }
         Input::Decode(d) => (maker.decode)(
             d.code.n, &d.code.map, &d.code.coefs, d.qc, d.qm, &d.frame,
-            &mut out.work, &mut out.bytes, &mut out.wide, &mut out.count,
+            &mut out.work, &mut out.bytes, &mut out.wide, &mut out.totals, &mut out.count,
         ),
     })
 }
@@ -369,7 +374,7 @@ fn noisy_decode(draws: &mut Draws, code: Code, qc: u32, qm: u32, guard: usize) -
     assert_eq!(refusal, 0, "the samples of a case are taken");
     let places = 1 << code.n;
     let (work_len, report_len) = (65 * places, 64 * places);
-    Decode { code, qc, qm, frame, work_len, symbols_len: places, report_len }
+    Decode { code, qc, qm, frame, work_len, symbols_len: places, report_len, totals_len: places }
 }
 
 fn noisy_demap(draws: &mut Draws, n: usize, qc: u32) -> Demap {
@@ -562,7 +567,7 @@ fn spoil_code(draws: &mut Draws, code: &mut Code) {
 
 /// Puts one mistake into an input of the decoder.
 fn spoil_decode(draws: &mut Draws, d: &mut Decode) {
-    match draws.below(14) {
+    match draws.below(15) {
         0 => d.frame.resize(wrong_length(draws, d.frame.len()), 0),
         1 => d.work_len = wrong_length(draws, d.work_len),
         2 => d.symbols_len = wrong_length(draws, d.symbols_len),
@@ -582,6 +587,7 @@ fn spoil_decode(draws: &mut Draws, d: &mut Decode) {
                 d.frame[start..start + 64].iter_mut().for_each(|entry| *entry = (*entry).max(1));
             }
         }
+        11 => d.totals_len = wrong_length(draws, d.totals_len),
         _ => spoil_code(draws, &mut d.code),
     }
 }
@@ -671,8 +677,8 @@ fn describe(input: &Input) -> String {
             d.base, d.samples.len(), d.top, d.bottom, d.qc, d.llrs_len
         ),
         Input::Decode(d) => format!(
-            "decode: {}, Qc {}, Qm {}, frame {}, work {}, symbols {}, report {}",
-            code(&d.code), d.qc, d.qm, d.frame.len(), d.work_len, d.symbols_len, d.report_len
+            "decode: {}, Qc {}, Qm {}, frame {}, work {}, symbols {}, report {}, totals {}",
+            code(&d.code), d.qc, d.qm, d.frame.len(), d.work_len, d.symbols_len, d.report_len, d.totals_len
         ),
     }
 }

@@ -166,28 +166,28 @@ fn magnitude(sample: i8) -> u32 {
     if sample == -128 { 0 } else { sample.unsigned_abs() as u32 }
 }
 
-/// Decodes a frame of penalties into symbols, the report and the count of clipped entries.
+/// Decodes a frame of penalties into symbols, the report, the totals and the count of clipped entries.
 pub fn decode(
     n: usize, map: &[u8], coefs: &[u8], qc: u32, qm: u32, frame: &[u16],
-    work: &mut [u16], symbols: &mut [u8], report: &mut [u16], count: &mut u32,
+    work: &mut [u16], symbols: &mut [u8], report: &mut [u16], totals: &mut [u16], count: &mut u32,
 ) -> u8 {
-    decode_by::<false>(n, map, coefs, qc, qm, frame, work, symbols, report, count)
+    decode_by::<false>(n, map, coefs, qc, qm, frame, work, symbols, report, totals, count)
 }
 
 /// The same, with the sums of the check nodes in 32 bits.
 pub fn decode_wide(
     n: usize, map: &[u8], coefs: &[u8], qc: u32, qm: u32, frame: &[u16],
-    work: &mut [u16], symbols: &mut [u8], report: &mut [u16], count: &mut u32,
+    work: &mut [u16], symbols: &mut [u8], report: &mut [u16], totals: &mut [u16], count: &mut u32,
 ) -> u8 {
-    decode_by::<true>(n, map, coefs, qc, qm, frame, work, symbols, report, count)
+    decode_by::<true>(n, map, coefs, qc, qm, frame, work, symbols, report, totals, count)
 }
 
 /// Decodes with the sums of the check nodes in 32 bits if WIDE, else in 16.
 fn decode_by<const WIDE: bool>(
     n: usize, map: &[u8], coefs: &[u8], qc: u32, qm: u32, frame: &[u16],
-    work: &mut [u16], symbols: &mut [u8], report: &mut [u16], count: &mut u32,
+    work: &mut [u16], symbols: &mut [u8], report: &mut [u16], totals: &mut [u16], count: &mut u32,
 ) -> u8 {
-    let lengths = [frame.len(), work.len(), symbols.len(), report.len()];
+    let lengths = [frame.len(), work.len(), symbols.len(), report.len(), totals.len()];
     let refusal = decode_refusal(n, map, coefs, qc, qm, frame, lengths);
     if refusal != 0 {
         return refusal;
@@ -195,22 +195,22 @@ fn decode_by<const WIDE: bool>(
     let (vectors, word) = work.split_at_mut(64 << n);
     let cap = (1 << qm) - 1;
     let report = report.as_chunks_mut().0;
-    let mut decoder = Decoder { map, coefs, cap, symbols, report, count: 0 };
-    decoder.part::<WIDE>(1, 0, frame.as_chunks().0, vectors.as_chunks_mut().0, word);
+    let mut decoder = Decoder { map, coefs, cap, symbols, report, totals, count: 0 };
+    decoder.part::<WIDE>(1, 0, 0, frame.as_chunks().0, vectors.as_chunks_mut().0, word);
     *count = decoder.count;
     work.fill(0);
     0
 }
 
 /// The refusals of the decoder: 1, 2, 3, 4, 5, 6, 8, 9. The lengths are those of frame, work
-/// buffer, symbols and report.
+/// buffer, symbols, report and totals.
 fn decode_refusal(
-    n: usize, map: &[u8], coefs: &[u8], qc: u32, qm: u32, frame: &[u16], lengths: [usize; 4],
+    n: usize, map: &[u8], coefs: &[u8], qc: u32, qm: u32, frame: &[u16], lengths: [usize; 5],
 ) -> u8 {
     if !(1..=8).contains(&n) {
         return 1;
     }
-    let needed = [64 << n, 65 << n, 1 << n, 64 << n];
+    let needed = [64 << n, 65 << n, 1 << n, 64 << n, 1 << n];
     if (map.len(), coefs.len()) != code_lengths(n) || lengths != needed {
         return 2;
     }
@@ -237,18 +237,21 @@ struct Decoder<'a> {
     cap: u16,
     symbols: &'a mut [u8],
     report: &'a mut [Vector],
+    totals: &'a mut [u16],
     count: u32,
 }
 
 impl Decoder<'_> {
-    /// Decodes the places from `first` on, given their penalties at the channel's side of `layer`.
-    /// Leaves in `word` their symbols at that side, made by the kernels of this and later layers.
+    /// Decodes the places from `first` on, given their penalties at the channel's side of `layer` and
+    /// what was taken off before it. Leaves in `word` their symbols at that side, made by the kernels
+    /// of this and later layers.
     fn part<const WIDE: bool>(
-        &mut self, layer: usize, first: usize, penalties: &[Vector],
+        &mut self, layer: usize, first: usize, taken: u16, penalties: &[Vector],
         spare: &mut [Vector], word: &mut [u16],
     ) {
         if penalties.len() == 1 {
             word[0] = self.decide(first, &penalties[0]) as u16;
+            self.totals[first] = taken;
             return;
         }
         let half = penalties.len() / 2;
@@ -265,11 +268,14 @@ impl Decoder<'_> {
                 check_node(&thetas[t], &phis[t], hs[t], &mut own[t]);
             }
         }
-        self.part::<WIDE>(layer + 1, first, own, rest, left);
+        self.part::<WIDE>(layer + 1, first, taken, own, rest, left);
+        let mut taken = taken;
         for t in 0..half {
-            self.count += variable_node(&thetas[t], &phis[t], hs[t], left[t], self.cap, &mut own[t]);
+            let (clipped, least) = variable_node(&thetas[t], &phis[t], hs[t], left[t], self.cap, &mut own[t]);
+            self.count += clipped;
+            taken += least;
         }
-        self.part::<WIDE>(layer + 1, first + half, own, rest, right);
+        self.part::<WIDE>(layer + 1, first + half, taken, own, rest, right);
         for t in 0..half {
             left[t] ^= right[t];
             right[t] = PRODUCT[hs[t] as usize][right[t] as usize] as u16;
@@ -328,8 +334,8 @@ fn check_node_wide(theta: &Vector, phi: &Vector, h: u8, out: &mut Vector) {
 }
 
 /// Gives c the sum of θ's penalty at u ⊕ c and φ's at h ⊙ c, less the least sum, clipped at the
-/// cap. Returns how many entries were clipped.
-fn variable_node(theta: &Vector, phi: &Vector, h: u8, u: u16, cap: u16, out: &mut Vector) -> u32 {
+/// cap. Returns how many entries were clipped, and the least sum.
+fn variable_node(theta: &Vector, phi: &Vector, h: u8, u: u16, cap: u16, out: &mut Vector) -> (u32, u16) {
     let phi = reordered(phi, h);
     for c in 0..64 {
         out[c] = theta[u as usize ^ c] + phi[c];
@@ -343,7 +349,7 @@ fn variable_node(theta: &Vector, phi: &Vector, h: u8, u: u16, cap: u16, out: &mu
             clipped += 1;
         }
     }
-    clipped
+    (clipped, least)
 }
 
 #[cfg(test)]
@@ -357,14 +363,24 @@ mod tests {
         vector
     }
 
-    /// Decodes a frame that must be taken: symbols, report, count.
-    fn decoded(n: usize, map: &[u8], coefs: &[u8], q: (u32, u32), frame: &[u16]) -> (Vec<u8>, Vec<u16>, u32) {
+    /// What decoding gives.
+    struct Decoded {
+        symbols: Vec<u8>,
+        report: Vec<u16>,
+        totals: Vec<u16>,
+        count: u32,
+    }
+
+    /// Decodes a frame that must be taken.
+    fn decoded(n: usize, map: &[u8], coefs: &[u8], q: (u32, u32), frame: &[u16]) -> Decoded {
         let mut work = vec![9; 65 << n];
-        let (mut symbols, mut report, mut count) = (vec![9; 1 << n], vec![9; 64 << n], 9);
-        let code = decode(n, map, coefs, q.0, q.1, frame, &mut work, &mut symbols, &mut report, &mut count);
+        let (mut symbols, mut report, mut totals, mut count) = (vec![9; 1 << n], vec![9; 64 << n], vec![9; 1 << n], 9);
+        let code = decode(
+            n, map, coefs, q.0, q.1, frame, &mut work, &mut symbols, &mut report, &mut totals, &mut count,
+        );
         assert_eq!(code, 0);
         assert!(work.iter().all(|&entry| entry == 0));
-        (symbols, report, count)
+        Decoded { symbols, report, totals, count }
     }
 
     #[test]
@@ -422,8 +438,8 @@ mod tests {
     #[test]
     fn ties() {
         let frame = [zero_at(5, 1), zero_at(4, 1)].concat();
-        let (symbols, report, count) = decoded(1, &[1, 0], &[1], (5, 13), &frame);
-        assert_eq!((symbols, report[0], count), (vec![0, 4], 1, 0));
+        let Decoded { symbols, report, totals, count } = decoded(1, &[1, 0], &[1], (5, 13), &frame);
+        assert_eq!((symbols, report[0], totals, count), (vec![0, 4], 1, vec![0, 1], 0));
         for c in 0..64 {
             assert_eq!(report[64 + c], if c == 4 || c == 5 { 0 } else { 1 });
         }
@@ -433,15 +449,15 @@ mod tests {
     fn program_frame() {
         let frame = [zero_at(33, 3), zero_at(1, 3)].concat();
         for (q, other, clipped) in [((5, 13), 6, 0), ((2, 2), 3, 63)] {
-            let (symbols, report, count) = decoded(1, &[1, 0], &[2], q, &frame);
-            assert_eq!((symbols, count), (vec![0, 33], clipped));
+            let Decoded { symbols, report, totals, count } = decoded(1, &[1, 0], &[2], q, &frame);
+            assert_eq!((symbols, totals, count), (vec![0, 33], vec![0, 0], clipped));
             assert_eq!(report[..64].to_vec(), zero_at(0, 3));
             let rest = (0..64).filter(|&c| c != 33).map(|c| report[64 + c]).min();
             assert_eq!((report[64 + 33], rest), (0, Some(other)));
         }
     }
 
-    /// Unclipped, the report holds the least totals of all words that begin with the row decided.
+    /// Unclipped, totals and report hold the least totals of all words that begin with the row decided.
     #[test]
     fn least_totals_of_four_places() {
         let (map, coefs) = ([1, 0, 1, 0], [7, 40, 3, 63]);
@@ -453,9 +469,9 @@ mod tests {
             let least = *vector.iter().min().unwrap();
             vector.iter_mut().for_each(|entry| *entry -= least);
         }
-        let (symbols, report, count) = decoded(2, &map, &coefs, (5, 13), &frame);
+        let Decoded { symbols, report, totals, count } = decoded(2, &map, &coefs, (5, 13), &frame);
         assert_eq!(count, 0);
-        let mut totals = vec![u16::MAX; 256];
+        let mut with_value = vec![u16::MAX; 256];
         for number in 0..1usize << 24 {
             let row: [u8; 4] = std::array::from_fn(|place| (number >> (6 * place)) as u8 & 63);
             let agreeing = (0..4).take_while(|&place| row[place] == symbols[place]).count();
@@ -463,14 +479,16 @@ mod tests {
             transform(2, &coefs, &mut word);
             let total: u16 = (0..4).map(|place| frame[64 * place + word[place] as usize]).sum();
             for place in 0..=agreeing.min(3) {
-                let entry = &mut totals[64 * place + row[place] as usize];
+                let entry = &mut with_value[64 * place + row[place] as usize];
                 *entry = total.min(*entry);
             }
         }
-        for vector in totals.chunks_exact_mut(64) {
+        let mut of_row = Vec::new();
+        for vector in with_value.chunks_exact_mut(64) {
             let least = *vector.iter().min().unwrap();
             vector.iter_mut().for_each(|entry| *entry -= least);
+            of_row.push(least);
         }
-        assert_eq!(report, totals);
+        assert_eq!((report, totals), (with_value, of_row));
     }
 }

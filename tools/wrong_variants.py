@@ -114,7 +114,13 @@ FILE_9 = """    if not vectors_have_zeros(N, frame):
 ENCODE_LENGTH_2 = """    if codeword_length != N:
         return REFUSED_LENGTH
 """
+SYMBOLS_LENGTH_2 = """    if symbols_length != N:
+        return REFUSED_LENGTH
+"""
 REPORT_LENGTH_2 = """    if report_length != 64 * N:
+        return REFUSED_LENGTH
+"""
+TOTALS_2 = """    if totals_length != N:
         return REFUSED_LENGTH
 """
 LINK_LENGTH_2 = """    if decoded_length != K:
@@ -180,7 +186,8 @@ ORDERS = [
     order("spreading: 10 before 7", CHIPS, SPREAD_7, BASE_10),
     order("weighing: 10 before 3", CHIPS, WEIGH_3, BASE_10),
     order("weighing: 11 before 10", CHIPS, BASE_10, WEIGH_11),
-    order("decoder: 3 before 2", DECODING, REPORT_LENGTH_2, PRECISION_3),
+    order("decoder: 3 before 2", DECODING, REPORT_LENGTH_2,
+          TOTALS_2 + PRECISION_3),
     order("decoder: 4 before 3", DECODING, PRECISION_3, MAP_4),
     order("decoder: 5 before 4", DECODING, MAP_4, NONE_5),
     order("decoder: 6 before 5", DECODING, NONE_5, COEFFICIENT_6),
@@ -608,9 +615,8 @@ DECODER = [
     ("count: layer 1 alone", DECODING, "clipped = clipped + more",
      "clipped = clipped + (more if l == 1 else 0)"),
     ("count: not those that feed a frozen place", DECODING,
-     "count = count + work_out_layer(n, coefs, Qm, held, symbols, l)",
-     "more = work_out_layer(n, coefs, Qm, held, symbols, l)\n"
-     "            count = count + (more if map[place] == 0 else 0)"),
+     "count = count + more",
+     "count = count + (more if map[place] == 0 else 0)"),
     ("u is the symbol decided", DECODING,
      "u = symbols_before_layer(n, coefs, decided, l)", "u = decided"),
     ("u without the coefficients", DECODING,
@@ -627,8 +633,8 @@ DECODER = [
      "return penalties.index(min(penalties))",
      "return penalties.index(max(penalties))"),
     ("later frozen places are 0 in the metric", DECODING,
-     "count = count + work_out_layer(n, coefs, Qm, held, symbols, l)",
-     "count = count + work_out_layer(n, coefs, Qm, held, symbols, l)\n"
+     "count = count + more",
+     "count = count + more\n"
      "            if l == n and place % 2 == 0 and map[place + 1] == 1:\n"
      "                least = min(held[n - 1][place])\n"
      "                held[n][place] = [\n"
@@ -674,11 +680,11 @@ DECODER = [
      "if symbols_length != N:", "if symbols_length < N:"),
     ("decoder: 5 is not tried", DECODING, NONE_5, ""),
     ("decoder: a refusal changes the symbols", DECODING,
-     "return (refusal, None, None, None)",
-     "return (refusal, [0] * symbols_length, None, None)"),
+     "return (refusal, None, None, None, None)",
+     "return (refusal, [0] * symbols_length, None, None, None)"),
     ("decoder: a refusal changes the report", DECODING,
-     "return (refusal, None, None, None)",
-     "return (refusal, None, [0] * report_length, None)"),
+     "return (refusal, None, None, None, None)",
+     "return (refusal, None, [0] * report_length, None, None)"),
     ("listing: the symbol's own among the others", DECODING,
      "others = penalties[:symbol] + penalties[symbol + 1:]",
      "others = penalties"),
@@ -717,8 +723,359 @@ TRIP = [
         return (refusal, None)
 """,
      """    if refusal != 0:
-        return (refusal, Answer([0] * samples_length, [], [], [], 0, []))
+        return (refusal, Answer([0] * samples_length, [], [], [], [], 0, []))
 """),
+]
+
+
+# --- Totals ------------------------------------------------------------------
+
+ADD_TAKEN = "            add_taken(n, l, phi, least, totals)\n"
+ADD_PLACE = "        totals[place] = totals[place] + least\n"
+GIVEN = "    return (given, clipped, least)\n"
+DECODED = "    return (ACCEPTED, symbols, report, totals, count)\n"
+REFUSED_DECODE = "        return (refusal, None, None, None, None)\n"
+DECODE_1 = """    if not n_is_valid(n):
+        return REFUSED_N
+    N = 2 ** n
+    if len(map) != N:
+        return REFUSED_LENGTH
+"""
+LINK_1 = """    if not n_is_valid(n):
+        return 1
+"""
+LINK_TOTALS_2 = """    if totals_length != N:
+        return 2
+"""
+REFUSED_TRIP = """    if answer is None:
+        return [refusal], {}
+"""
+DECODE_TOTALS = """                              "totals": totals}
+"""
+TRIP_TOTALS = """        "report": answer.report, "totals": answer.totals,
+"""
+
+
+def kernels(name, condition):
+    """A variant in which a kernel counts under a condition alone."""
+    return (name, DECODING, ADD_TAKEN,
+            "            if %s:\n    " % condition + ADD_TAKEN)
+
+
+def all_kernels(name, together):
+    """A variant in which a node's kernels, in the list off, count together as
+    something else than their sum."""
+    return (name, DECODING, ADD_TAKEN,
+            "            if phi %% distance == 0:\n"
+            "                off = []\n"
+            "            off.append(least)\n"
+            "            if len(off) == distance:\n"
+            "                add_taken(n, l, phi, %s, totals)\n" % together)
+
+
+def halves(name, lines):
+    """A variant in which what was taken off goes to other places."""
+    return (name, DECODING, ADD_TAKEN, lines)
+
+
+def taken_off(name, amount):
+    """A variant in which a kernel of a variable node hands back another
+    number."""
+    return (name, DECODING, GIVEN,
+            "    return (given, clipped, %s)\n" % amount)
+
+
+def handed_out(name, totals):
+    """A variant in which other totals are answered in the end."""
+    return (name, DECODING, DECODED,
+            "    totals = %s\n" % totals + DECODED)
+
+
+def left_by(name, totals):
+    """A variant in which a call of the decoder leaves other totals."""
+    return (name, CALLS, DECODE_TOTALS,
+            "                              \"totals\": %s}\n" % totals)
+
+
+def left_by_trip(name, totals):
+    """A variant in which a round trip leaves other totals."""
+    return (name, CALLS, TRIP_TOTALS,
+            "        \"report\": answer.report, \"totals\": %s,\n" % totals)
+
+
+def decode_length(name, condition):
+    """A variant in which the decoder refuses other lengths of the totals."""
+    return (name, DECODING, "    if totals_length != N:\n",
+            "    if %s:\n" % condition)
+
+
+def trip_length(name, condition):
+    """A variant in which a round trip refuses other lengths of the totals."""
+    return (name, LINKING, "    if totals_length != N:\n",
+            "    if %s:\n" % condition)
+
+
+def decode_writes(name, condition):
+    """A variant in which the decoder writes zeros where it refuses."""
+    return (name, DECODING, REFUSED_DECODE,
+            "        if %s:\n" % condition
+            + "            return (refusal, None, None, "
+            "[0] * totals_length, None)\n" + REFUSED_DECODE)
+
+
+def trip_writes(name, condition):
+    """A variant in which a round trip writes zeros where it refuses."""
+    return (name, CALLS, REFUSED_TRIP,
+            "    if answer is None and %s:\n" % condition
+            + "        return [refusal], {"
+            "\"totals\": [0] * len(given[\"totals\"])}\n" + REFUSED_TRIP)
+
+
+# There is none for what the weigher subtracts in a round trip: that is 0, as
+# the samples agree with each chip of the symbol sent.  Nor for the least
+# clipped to 2^Qm - 1: it is never above that, as no penalty held is, and one
+# of the sums is a penalty of theta's and a 0.
+TOTALS = [
+    kernels("totals: the first kernel of a node is left out",
+            "phi % distance > 0 or distance == 1"),
+    kernels("totals: the last kernel of a node is left out",
+            "(phi + 1) % distance > 0 or distance == 1"),
+    kernels("totals: the first kernel of a node alone", "phi % distance == 0"),
+    kernels("totals: the last kernel of a node alone",
+            "(phi + 1) % distance == 0"),
+    kernels("totals: two kernels of a node at most", "phi % distance < 2"),
+    kernels("totals: every second kernel", "t % 2 == 0 or distance == 1"),
+    kernels("totals: the kernels of the first block of a layer",
+            "phi < 2 * distance"),
+    kernels("totals: the kernels of the last block of a layer",
+            "phi + distance >= 2 ** n"),
+    kernels("totals: layer n alone", "l == n"),
+    kernels("totals: all layers but n", "l < n"),
+    kernels("totals: layer 1 alone", "l == 1"),
+    kernels("totals: all layers but 1", "l > 1"),
+    kernels("totals: not with clipped entries", "more == 0"),
+    kernels("totals: with clipped entries alone", "more > 0"),
+    all_kernels("totals: the least of a node's kernels", "min(off)"),
+    all_kernels("totals: the greatest of a node's kernels", "max(off)"),
+    all_kernels("totals: the mean of a node's kernels",
+                "sum(off) // distance"),
+    all_kernels("totals: the first kernel of a node for all",
+                "off[0] * distance"),
+    all_kernels("totals: the last kernel of a node twice",
+                "sum(off) + off[-1]"),
+    halves("totals: the check node's half too",
+           ADD_TAKEN + ADD_TAKEN.replace("phi", "theta")),
+    halves("totals: the check node's half in place of the other",
+           ADD_TAKEN.replace("phi", "theta")),
+    halves("totals: the check node's half in layer n alone",
+           ADD_TAKEN + "            if l == n:\n    "
+           + ADD_TAKEN.replace("phi", "theta")),
+    halves("totals: the check node's half in layer 1 alone",
+           ADD_TAKEN + "            if l == 1:\n    "
+           + ADD_TAKEN.replace("phi", "theta")),
+    halves("totals: the place of phi alone",
+           "            totals[phi] = totals[phi] + least\n"),
+    halves("totals: all places from phi's half on",
+           "            for i in range(phi - phi % distance, 2 ** n):\n"
+           "                totals[i] = totals[i] + least\n"),
+    halves("totals: all places",
+           "            for i in range(2 ** n):\n"
+           "                totals[i] = totals[i] + least\n"),
+    halves("totals: the last node alone",
+           "            if phi % distance == 0:\n"
+           "                for i in range(phi, phi + distance):\n"
+           "                    totals[i] = 0\n" + ADD_TAKEN),
+    ("totals: the first place of the half alone", DECODING, ADD_PLACE,
+     ADD_PLACE.replace("place", "first")
+     + "        if place == first:\n            break\n"),
+    ("totals: the last place of the half alone", DECODING,
+     "    for place in range(first, first + distance):\n",
+     "    for place in range(first + distance - 1, first + distance):\n"),
+    ("totals: the last place of the half is left out", DECODING,
+     "    for place in range(first, first + distance):\n",
+     "    for place in range(first, first + max(1, distance - 1)):\n"),
+    ("totals: the first place of the half is left out", DECODING,
+     "    for place in range(first, first + distance):\n",
+     "    for place in range(first + (distance > 1), first + distance):\n"),
+    ("totals: cut to a byte at each step", DECODING, ADD_PLACE,
+     "        totals[place] = (totals[place] + least) % 256\n"),
+    taken_off("totals: the least that is left", "min(given)"),
+    taken_off("totals: the greatest of the sums", "max(sums)"),
+    taken_off("totals: the greatest that is left", "max(given)"),
+    taken_off("totals: what the clipping took away too",
+              "least + sum(sums) - 64 * least - sum(given)"),
+    taken_off("totals: what the clipping took away from the greatest too",
+              "least + max(sums) - least - max(given)"),
+    taken_off("totals: the count of clipped entries too", "least + clipped"),
+    taken_off("totals: the value that has the least", "sums.index(least)"),
+    taken_off("totals: the second least", "sorted(sums)[1]"),
+    taken_off("totals: the sum of value 0", "sums[0]"),
+    taken_off("totals: the least twice", "2 * least"),
+    taken_off("totals: one less", "max(least - 1, 0)"),
+    taken_off("totals: at most 31 for each kernel", "min(least, 31)"),
+    taken_off("totals: the least without u",
+              "min(at_theta[c] + at_phi[gf_product(h, c)]\n"
+              "                                for c in range(64))"),
+    taken_off("totals: the least without the coefficient",
+              "min(at_theta[gf_sum(u, c)] + at_phi[c]\n"
+              "                                for c in range(64))"),
+    taken_off("totals: theta's part of the least",
+              "at_theta[gf_sum(u, sums.index(least))]"),
+    taken_off("totals: phi's part of the least",
+              "at_phi[gf_product(h, sums.index(least))]"),
+    handed_out("totals: those of the next place", "totals[1:] + [0]"),
+    handed_out("totals: those of the next place, the last one twice",
+               "totals[1:] + totals[-1:]"),
+    handed_out("totals: those of the place before", "[0] + totals[:-1]"),
+    handed_out("totals: in falling order of places", "totals[::-1]"),
+    handed_out("totals: in the order of places of 000",
+               "[totals[int(bin(i + N)[:2:-1], 2)] for i in range(N)]"),
+    handed_out("totals: mod 256", "[total % 256 for total in totals]"),
+    handed_out("totals: mod 4096", "[total % 4096 for total in totals]"),
+    handed_out("totals: at most 255", "[min(total, 255) for total in totals]"),
+    handed_out("totals: at most 2^Qc - 1",
+               "[min(total, 2 ** Qc - 1) for total in totals]"),
+    handed_out("totals: at most 2^Qm - 1",
+               "[min(total, 2 ** Qm - 1) for total in totals]"),
+    handed_out("totals: at most 31 N / 2",
+               "[min(total, 31 * N // 2) for total in totals]"),
+    handed_out("totals: a running sum over the places",
+               "[sum(totals[:i + 1]) for i in range(N)]"),
+    handed_out("totals: what is more than at the place before",
+               "[b - a for a, b in zip([0] + totals, totals)]"),
+    handed_out("totals: 0 at frozen places",
+               "[totals[i] if map[i] == 0 else 0 for i in range(N)]"),
+    handed_out("totals: 0 at message places",
+               "[totals[i] if map[i] == 1 else 0 for i in range(N)]"),
+    handed_out("totals: message places alone, moved up",
+               "([totals[i] for i in range(N) if map[i] == 0]\n"
+               "              + [0] * N)[:N]"),
+    handed_out("totals: with the penalty of the place's own symbol",
+               "[totals[i] + report[64 * i + symbols[i]] for i in range(N)]"),
+    handed_out("totals: the last one at each place", "totals[-1:] * N"),
+    handed_out("totals: the last one at each place but the first",
+               "[0] + totals[-1:] * (N - 1)"),
+    handed_out("totals: the decoded word's at each place but the first",
+               "[0] + [total(frame, transform(n, coefs, symbols))] * (N - 1)"),
+    handed_out("totals: the frame's penalties of the symbols before",
+               "[sum(frame[64 * i + symbols[i]] for i in range(place))\n"
+               "              for place in range(N)]"),
+    handed_out("totals: the reported penalties of the symbols before",
+               "[sum(report[64 * i + symbols[i]] for i in range(place))\n"
+               "              for place in range(N)]"),
+    handed_out("totals: all 0 where an entry was clipped",
+               "[0] * N if count > 0 else totals"),
+    handed_out("totals: the least totals where an entry was clipped",
+               "decode(n, map, coefs, 5, 13, frame, 65 * N, N, 64 * N, N)[3]"
+               "\\\n        if Qm < 13 else totals"),
+    handed_out("totals: the last one is 0", "totals[:-1] + [0]"),
+    handed_out("totals: the first is 1", "[1] + totals[1:]"),
+    left_by("totals: the buffer stays as it came", "[]"),
+    left_by("totals: zeros are written", "[0] * len(totals)"),
+    left_by("totals: the first entry stays as it came",
+            "given[\"totals\"][:1] + totals[1:]"),
+    left_by("totals: the last entry stays as it came", "totals[:-1]"),
+    left_by("totals: a 0 is not written",
+            "[a or b for a, b in zip(totals, given[\"totals\"])]"),
+    left_by("totals: added to what was there",
+            "[(a + b) % 65536 for a, b in zip(totals, given[\"totals\"])]"),
+    left_by_trip("round trip: the totals stay as they came", "[]"),
+    left_by_trip("round trip: zeros for totals", "[0] * len(answer.totals)"),
+    left_by_trip("round trip: the totals of the message places",
+                 "linking.message_of(\n            given[\"map\"], "
+                 "answer.totals)"),
+    left_by_trip("round trip: the totals of the place before",
+                 "[0] + answer.totals[:-1]"),
+    left_by_trip("round trip: totals mod 256",
+                 "[x % 256 for x in answer.totals]"),
+    ("decoder: the totals' length is not tried", DECODING, TOTALS_2, ""),
+    decode_length("decoder: longer totals are taken", "totals_length < N"),
+    decode_length("decoder: shorter totals are taken", "totals_length > N"),
+    decode_length("decoder: N + 1 totals are taken",
+                  "totals_length not in (N, N + 1)"),
+    decode_length("decoder: N - 1 totals are taken",
+                  "totals_length not in (N, N - 1)"),
+    decode_length("decoder: no totals are taken",
+                  "totals_length not in (N, 0)"),
+    decode_length("decoder: 2 N totals are taken",
+                  "totals_length not in (N, 2 * N)"),
+    decode_length("decoder: N / 2 totals are taken",
+                  "totals_length not in (N, N // 2)"),
+    decode_length("decoder: 599 totals are taken",
+                  "totals_length not in (N, 599)"),
+    decode_length("decoder: the length of the totals is cut to a byte",
+                  "totals_length % 256 != N % 256"),
+    ("decoder: symbols and totals are counted together", DECODING,
+     SYMBOLS_LENGTH_2 + REPORT_LENGTH_2 + TOTALS_2,
+     REPORT_LENGTH_2 + TOTALS_2.replace(
+         "totals_length != N", "symbols_length + totals_length != 2 * N")),
+    ("decoder: report and totals are counted together", DECODING,
+     REPORT_LENGTH_2 + TOTALS_2,
+     TOTALS_2.replace("totals_length != N",
+                      "report_length + totals_length != 65 * N")),
+    ("decoder: 12 for the length of the totals", DECODING, TOTALS_2,
+     TOTALS_2.replace("REFUSED_LENGTH", "12")),
+    order("decoder: the totals' 2 after 3", DECODING, TOTALS_2, PRECISION_3),
+    order("decoder: the totals' 2 after 9", DECODING, TOTALS_2,
+          PRECISION_3 + MAP_4 + NONE_5 + COEFFICIENT_6 + PENALTY_8
+          + NO_ZERO_9),
+    ("decoder: the totals' 2 before 1", DECODING, DECODE_1,
+     "    if totals_length != 2 ** min(n, 9):\n"
+     "        return REFUSED_LENGTH\n" + DECODE_1),
+    decode_writes("decoder: a refusal changes the totals", "True"),
+    decode_writes("decoder: 8 and 9 change the totals", "refusal in (8, 9)"),
+    decode_writes("decoder: the 2 of the totals changes them",
+                  "refusal == 2 and totals_length != 2 ** n"),
+    decode_writes("decoder: the 2 of others changes the totals",
+                  "refusal == 2 and totals_length == 2 ** n"),
+    ("decoder: a refusal changes the first total", DECODING, REFUSED_DECODE,
+     "        return (refusal, None, None, [0][:totals_length], None)\n"),
+    ("round trip: the totals' length is not tried", LINKING, LINK_TOTALS_2,
+     ""),
+    trip_length("round trip: longer totals are taken", "totals_length < N"),
+    trip_length("round trip: shorter totals are taken", "totals_length > N"),
+    trip_length("round trip: no totals are taken",
+                "totals_length not in (N, 0)"),
+    trip_length("round trip: N / 2 totals are taken",
+                "totals_length not in (N, N // 2)"),
+    trip_length("round trip: the length of the totals is cut to a byte",
+                "totals_length % 256 != N % 256"),
+    ("round trip: 12 for the length of the totals", LINKING, LINK_TOTALS_2,
+     LINK_TOTALS_2.replace("2", "12")),
+    order("round trip: the totals' 2 after 3", LINKING, LINK_TOTALS_2,
+          LINK_LENGTH_2 + LINK_3),
+    order("round trip: the totals' 2 after 19", LINKING, LINK_TOTALS_2,
+          LINK_LENGTH_2 + LINK_3 + LINK_4 + LINK_5 + LINK_6 + LINK_7
+          + BASE_10 + LINK_11 + LINK_19),
+    ("round trip: the totals' 2 before 1", LINKING, LINK_1,
+     "    if totals_length != 2 ** min(n, 9):\n        return 2\n" + LINK_1),
+    trip_writes("round trip: a refusal changes the totals", "True"),
+    trip_writes("round trip: the 2 of the totals changes them",
+                "refusal == 2\\\n            and "
+                "len(given[\"totals\"]) != 2 ** given[\"n\"]"),
+    trip_writes("round trip: the 2 of others changes the totals",
+                "refusal == 2\\\n            and "
+                "len(given[\"totals\"]) == 2 ** given[\"n\"]"),
+] + [
+    ("decoder: %d before the totals' 2" % number, DECODING, TOTALS_2,
+     condition + TOTALS_2)
+    for number, condition in (
+        (4, MAP_4), (5, NONE_5), (6, COEFFICIENT_6), (8, PENALTY_8),
+        (9, NO_ZERO_9))
+] + [
+    ("round trip: %d before the totals' 2" % number, LINKING, LINK_TOTALS_2,
+     condition + LINK_TOTALS_2)
+    for number, condition in (
+        (4, LINK_4), (5, LINK_5), (6, LINK_6), (7, LINK_7), (10, BASE_10),
+        (11, LINK_11), (19, LINK_19))
+] + [
+    decode_writes("decoder: %d changes the totals" % number,
+                  "refusal == %d" % number)
+    for number in (1, 3, 4, 5, 6, 8, 9)
+] + [
+    trip_writes("round trip: %d changes the totals" % number,
+                "refusal == %d" % number)
+    for number in (1, 3, 4, 5, 6, 7, 10, 11, 19)
 ]
 
 
@@ -1069,8 +1426,8 @@ CALL = [
      "for later in range(n, l, -1):", "for later in range(l + 1, n + 1):"),
 ]
 
-VARIANTS = (ENCODER + CHIP + LOST + DECODER + TRIP + READER + WRITER + ORDERS
-            + CALL)
+VARIANTS = (ENCODER + CHIP + LOST + DECODER + TRIP + TOTALS + READER + WRITER
+            + ORDERS + CALL)
 
 
 # --- One variant -------------------------------------------------------------

@@ -2,7 +2,8 @@
 
 Each number and slice of a call is now and then another one: any entries up to
 the largest, any length up to the capacity, any number.  What is left is as in
-the calls of the other modules, so that many numbers of refusals occur.
+the calls of the other modules, so that many numbers of refusals occur.  The
+totals are left as they are; totals_cases.py has other lengths of them.
 """
 
 import chip_cases
@@ -69,7 +70,7 @@ def changed(generator, letter, call, mode):
     1 numbers and lengths, in mode 2 all; at least one slice that is not lent,
     and one length."""
     call = dict(call)
-    names = records.field_names(letter)
+    names = [name for name in records.field_names(letter) if name != "totals"]
     slices = [name for name in names if name in records.BUFFERS]
     lent = records.lent_names(letter)
     content = pick(generator, [name for name in slices if name not in lent])
@@ -152,7 +153,7 @@ CALLS = (
 
 # The length of each slice for a code of one place, which is refused.
 ONE_PLACE = {"map": 1, "coefs": 0, "message": 1, "symbols": 1, "samples": 64,
-             "frame": 64, "work": 65, "report": 64}
+             "frame": 64, "work": 65, "report": 64, "totals": 1}
 
 
 def one_place_blocks(generator):

@@ -8,6 +8,8 @@ The rules are those of scms.py, chips.py, decoding.py, linking.py, reading.py
 and writing.py.
 """
 
+import collections
+
 import chips
 import decoding
 import linking
@@ -80,31 +82,36 @@ def part(given):
 
 
 def decode(given):
-    """D: symbols, report and count; the work buffer is all zeros after it."""
-    refusal, symbols, report, count = decoding.decode(
+    """D: symbols, report, totals and count; the work buffer is all zeros
+    after it."""
+    refusal, symbols, report, totals, count = decoding.decode(
         given["n"], given["map"], given["coefs"], given["Qc"], given["Qm"],
         given["frame"], len(given["work"]), len(given["symbols"]),
-        len(given["report"]))
+        len(given["report"]), len(given["totals"]))
     if refusal != scms.ACCEPTED:
-        return [refusal], left_in(["symbols", "report"], [symbols, report])
+        return [refusal], left_in(["symbols", "report", "totals"],
+                                  [symbols, report, totals])
     return [refusal, count], {"work": [0] * len(given["work"]),
-                              "symbols": symbols, "report": report}
+                              "symbols": symbols, "report": report,
+                              "totals": totals}
 
 
 def round_trip(given):
-    """t: samples, frame, symbols, report, count and decoded message."""
+    """t: samples, frame, symbols, report, totals, count and decoded
+    message."""
     refusal, answer = linking.link(
         given["n"], given["map"], given["coefs"], given["message"],
         given["base"], given["amplitude"], given["top"], given["bottom"],
         given["Qc"], given["Qm"], len(given["samples"]), len(given["frame"]),
         len(given["work"]), len(given["symbols"]), len(given["report"]),
-        len(given["text"]))
+        len(given["totals"]), len(given["text"]))
     if answer is None:
         return [refusal], {}
     return [refusal, answer.count], {
         "samples": of_bytes(answer.samples), "frame": answer.frame,
         "work": [0] * len(given["work"]), "symbols": answer.symbols,
-        "report": answer.report, "text": answer.message}
+        "report": answer.report, "totals": answer.totals,
+        "text": answer.message}
 
 
 # --- Readers -----------------------------------------------------------------
@@ -178,7 +185,7 @@ def listing_refusal(n, map, coefs, frame, text_length):
     N = 2 ** n if scms.n_is_valid(n) else 1
     refusal = decoding.decode_refusal(
         n, map, coefs, reading.PROGRAM_QC, reading.PROGRAM_QM, frame, 65 * N,
-        N, 64 * N)
+        N, 64 * N, N)
     if refusal != scms.REFUSED_N and text_length != 21 * N + 6:
         return scms.REFUSED_LENGTH
     return refusal
@@ -234,14 +241,27 @@ CALLS = {
 }
 
 
-def expected(lines):
-    """The line that is printed for each record."""
+Worked = collections.namedtuple(
+    "Worked", ["letter", "given", "numbers", "left", "line"])
+
+
+def worked_out(lines):
+    """For each record its letter and what it gives the call, the numbers
+    answered and what the call leaves, and the line that is printed."""
     buffers = records.Buffers()
     for line in lines:
         letter, given = buffers.expand(line)
         numbers, left = CALLS[letter](given)
+        printed = list(numbers)
         for name in records.lent_names(letter):
             entries = over(given[name], left.get(name, []))
             buffers.keep(name, entries)
-            numbers.append(records.buffer_checksum(name, entries))
-        yield " ".join(str(number) for number in numbers)
+            printed.append(records.buffer_checksum(name, entries))
+        yield Worked(letter, given, numbers, left,
+                     " ".join(str(number) for number in printed))
+
+
+def expected(lines):
+    """The line that is printed for each record."""
+    for worked in worked_out(lines):
+        yield worked.line

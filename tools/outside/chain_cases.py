@@ -9,7 +9,14 @@ what the one before left.
 import records
 
 from draws import Generator, code_sizes, draw_base
-from pieces import coefs_slice, lent, map_slice, places, symbols_slice
+from pieces import (
+    coefs_slice,
+    lent,
+    map_slice,
+    places,
+    symbols_slice,
+    totals_slice,
+)
 
 # The state from which all cases are drawn, one after the other.
 FIRST_STATE = 440
@@ -82,7 +89,8 @@ def case_calls(generator, n, Qc, Qm):
                   frame=same(64 * size),
                   work=lent(generator, "work", 65 * size),
                   symbols=lent(generator, "symbols", size),
-                  report=lent(generator, "report", 64 * size))
+                  report=lent(generator, "report", 64 * size),
+                  totals=totals_slice(generator, size))
     return [("e", encode), ("s", spread), ("c", channel), ("d", weigh),
             ("D", decode)]
 

@@ -24,6 +24,7 @@ from pieces import (
     precisions,
     sent_frame,
     symbols_slice,
+    totals_slice,
     up_to_two,
 )
 
@@ -57,6 +58,7 @@ def code_call(generator, n, map, coefs, Qc, Qm, frame):
         work=lent(generator, "work", 65 * 2 ** n),
         symbols=lent(generator, "symbols", 2 ** n),
         report=lent(generator, "report", 64 * 2 ** n),
+        totals=totals_slice(generator, 2 ** n),
     )
 
 

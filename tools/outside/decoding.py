@@ -19,7 +19,8 @@ Open points in the paper, and the reading chosen for each:
     of symbols to encode or spread, and 10 to 12 of inputs it does not have.
  2. The needed lengths are not gathered in one place.  Each must be met
     exactly: map N, coefficients n * N/2, frame 64 * N, work buffer 65 * N,
-    symbols N, report 64 * N; a longer buffer is refused like a shorter one.
+    symbols N, report 64 * N, totals N; a longer buffer is refused like a
+    shorter one.
  3. Whether the work buffer must hold zeros before the call is not said.  What
     lent buffers hold beforehand is never looked at.
  4. Conditions 8 and 9 might be tried vector by vector.  The lowest number
@@ -45,6 +46,20 @@ Open points in the paper, and the reading chosen for each:
     values.
 11. The worked frame with vectors of 0 and 1 names neither Qc nor Qm.  It is
     checked for every pair of them that is not refused.
+12. Request 03 names neither "line of nodes" nor "all kernels of a node".  A
+    node of layer l has the 2^(n-l) kernels of one block of 2 * 2^(n-l)
+    places, and half of the block hangs on it.  The variable node's half is
+    that of the phi: each of its places gets what all these kernels took off.
+    The other half, that of the theta, hangs on the check node and gets
+    nothing from this layer.  A place's number is the sum over the layers 1
+    to n, so that of place 0, which is in the first half in each, is 0.
+13. What a variable node takes off is the least of the 64 sums, before what
+    exceeds is clipped.  It is counted the same in a frame that is clipped;
+    what the clipping itself takes away is no part of it.
+14. A check node has nothing subtracted from it.  Its least is 0 in any case,
+    so it would add nothing.
+15. The totals are no part of the program's listing.  The program lends N
+    numbers for them all the same.
 """
 
 import itertools
@@ -102,8 +117,8 @@ def vectors_have_zeros(N, frame):
     return True
 
 
-def decode_refusal(n, map, coefs, Qc, Qm, frame,
-                   work_length, symbols_length, report_length):
+def decode_refusal(n, map, coefs, Qc, Qm, frame, work_length,
+                   symbols_length, report_length, totals_length):
     """The lowest refusal number that fits, or 0 if the frame is taken."""
     if not n_is_valid(n):
         return REFUSED_N
@@ -119,6 +134,8 @@ def decode_refusal(n, map, coefs, Qc, Qm, frame,
     if symbols_length != N:
         return REFUSED_LENGTH
     if report_length != 64 * N:
+        return REFUSED_LENGTH
+    if totals_length != N:
         return REFUSED_LENGTH
     if not precisions_are_valid(Qc, Qm):
         return REFUSED_PRECISION
@@ -158,7 +175,8 @@ def check_node(h, at_theta, at_phi):
 
 
 def variable_node(h, u, Qm, at_theta, at_phi):
-    """The 64 penalties that a variable node gives, and how many it clipped."""
+    """The 64 penalties that one kernel of a variable node gives, how many it
+    clipped, and the least of the sums, which it took off."""
     sums = []
     for c in range(FIELD_SIZE):
         sums.append(at_theta[gf_sum(u, c)] + at_phi[gf_product(h, c)])
@@ -172,7 +190,7 @@ def variable_node(h, u, Qm, at_theta, at_phi):
             penalty = top
             clipped = clipped + 1
         given.append(penalty)
-    return (given, clipped)
+    return (given, clipped, least)
 
 
 # --- Layers ------------------------------------------------------------------
@@ -193,8 +211,18 @@ def symbols_before_layer(n, coefs, decided, l):
     return x
 
 
-def work_out_layer(n, coefs, Qm, held, decided, l):
-    """Work out the nodes of layer l now due; returns the entries clipped."""
+def add_taken(n, l, phi, least, totals):
+    """Add what a kernel of layer l took off to each place on its node's line:
+    those of the half of the kernel's block that its phi is in."""
+    distance = 2 ** (n - l)
+    first = phi - phi % distance
+    for place in range(first, first + distance):
+        totals[place] = totals[place] + least
+
+
+def work_out_layer(n, coefs, Qm, held, totals, decided, l):
+    """Work out the nodes of layer l now due, with what they take off added to
+    the totals; returns the entries clipped."""
     # The place to decide next is the count of decided symbols.  In layer l it
     # depends on the 2^(n-l) places of its block, blocks beginning at multiples
     # of 2^(n-l), so the nodes are due when that place is the first of a block.
@@ -212,9 +240,10 @@ def work_out_layer(n, coefs, Qm, held, decided, l):
         if place <= theta < place + distance:
             held[l][theta] = check_node(h, at_theta, at_phi)
         if place <= phi < place + distance:
-            held[l][phi], more = variable_node(h, u[theta], Qm,
-                                               at_theta, at_phi)
+            held[l][phi], more, least = variable_node(h, u[theta], Qm,
+                                                      at_theta, at_phi)
             clipped = clipped + more
+            add_taken(n, l, phi, least, totals)
     return clipped
 
 
@@ -228,25 +257,28 @@ def decision(byte, penalties):
 
 
 def decode(n, map, coefs, Qc, Qm, frame,
-           work_length, symbols_length, report_length):
-    """Decode a frame; returns (refusal number, symbols, report, count)."""
-    refusal = decode_refusal(n, map, coefs, Qc, Qm, frame,
-                             work_length, symbols_length, report_length)
+           work_length, symbols_length, report_length, totals_length):
+    """Decode a frame; returns (refusal number, symbols, report, totals,
+    count)."""
+    refusal = decode_refusal(n, map, coefs, Qc, Qm, frame, work_length,
+                             symbols_length, report_length, totals_length)
     if refusal != ACCEPTED:
-        return (refusal, None, None, None)
+        return (refusal, None, None, None, None)
     N = 2 ** n
     held = [[None] * N for l in range(n + 1)]
     for place in range(N):
         held[0][place] = vector(frame, place)
     symbols = []
     report = []
+    totals = [0] * N
     count = 0
     for place in range(N):
         for l in range(1, n + 1):
-            count = count + work_out_layer(n, coefs, Qm, held, symbols, l)
+            more = work_out_layer(n, coefs, Qm, held, totals, symbols, l)
+            count = count + more
         report.extend(held[n][place])
         symbols.append(decision(map[place], held[n][place]))
-    return (ACCEPTED, symbols, report, count)
+    return (ACCEPTED, symbols, report, totals, count)
 
 
 # --- Least totals by enumeration ---------------------------------------------
@@ -279,10 +311,11 @@ def spike(value, elsewhere):
 def decode_lent(n, map, coefs, Qc, Qm, frame):
     """Decode with buffers of the needed lengths; the frame must be taken."""
     N = 2 ** n
-    number, symbols, report, count = decode(n, map, coefs, Qc, Qm, frame,
-                                            65 * N, N, 64 * N)
+    number, symbols, report, totals, count = decode(
+        n, map, coefs, Qc, Qm, frame, 65 * N, N, 64 * N, N)
     assert number == ACCEPTED
-    return (symbols, report, count)
+    assert totals[0] == 0
+    return (symbols, report, totals, count)
 
 
 def listing(symbols, report):
@@ -307,26 +340,30 @@ def random_frame(draw, N, Qc):
 
 
 def random_unclipped(draw, n, map):
-    """Coefficients, frame, symbols and report of a random unclipped frame."""
+    """Coefficients, frame, symbols, report and totals of a random unclipped
+    frame."""
     N = 2 ** n
     while True:
         coefs = [draw.randrange(1, 64) for number in range(n * (N // 2))]
         Qc = draw.randrange(1, 6)
         Qm = draw.randrange(Qc, 14)
         frame = random_frame(draw, N, Qc)
-        symbols, report, count = decode_lent(n, map, coefs, Qc, Qm, frame)
+        symbols, report, totals, count = decode_lent(n, map, coefs, Qc, Qm,
+                                                     frame)
         if count == 0:
-            return (coefs, frame, symbols, report)
+            return (coefs, frame, symbols, report, totals)
 
 
-def assert_least_totals(n, coefs, frame, symbols, report, place):
-    """Assert one place's reported penalties against the least totals."""
-    totals = []
+def assert_least_totals(n, coefs, frame, symbols, report, totals, place):
+    """Assert one place's reported penalties and its total against the least
+    totals."""
+    found = []
     for b in range(FIELD_SIZE):
         row = symbols[:place] + [b]
-        totals.append(least_totals_brute(n, coefs, frame, row))
-    least = min(totals)
-    assert vector(report, place) == [found - least for found in totals]
+        found.append(least_totals_brute(n, coefs, frame, row))
+    least = min(found)
+    assert vector(report, place) == [one - least for one in found]
+    assert totals[place] == least
 
 
 def self_test():
@@ -335,7 +372,8 @@ def self_test():
     frame = spike(5, 1) + spike(4, 1)
     for Qc in range(1, 6):
         for Qm in range(Qc, 14):
-            symbols, report, count = decode_lent(1, [1, 0], [1], Qc, Qm, frame)
+            symbols, report, totals, count = decode_lent(
+                1, [1, 0], [1], Qc, Qm, frame)
             assert symbols == [0, 4]
             assert vector(report, 0)[0] == 1
             place_1 = [1] * FIELD_SIZE
@@ -344,15 +382,20 @@ def self_test():
             assert vector(report, 1) == place_1
             # No sum less the least is above 1, so nothing exceeds the cap.
             assert count == 0
+            # With 0 before it, place 1 has 2 at all values but 4 and 5, where
+            # it has 1.
+            assert totals == [0, 1]
 
     # The printed frame: N = 2, coefficient 2, place 0 frozen.
     frame = spike(33, 3) + spike(1, 3)
-    symbols, report, count = decode_lent(1, [1, 0], [2], 5, 13, frame)
+    symbols, report, totals, count = decode_lent(1, [1, 0], [2], 5, 13, frame)
     assert listing(symbols, report) == [(0, 0, 0, 3), (1, 33, 0, 6)]
     assert count == 0
-    symbols, report, count = decode_lent(1, [1, 0], [2], 2, 2, frame)
+    assert totals == [0, 0]
+    symbols, report, totals, count = decode_lent(1, [1, 0], [2], 2, 2, frame)
     assert listing(symbols, report) == [(0, 0, 0, 3), (1, 33, 0, 3)]
     assert count == 63
+    assert totals == [0, 0]
 
     draw = random.Random(64)
 

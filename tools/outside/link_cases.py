@@ -24,6 +24,7 @@ from pieces import (
     precisions,
     sent_base,
     symbols_slice,
+    totals_slice,
 )
 
 TAKEN = 60
@@ -86,6 +87,7 @@ def draw_call(generator, n):
         work=lent(generator, "work", 65 * size),
         symbols=lent(generator, "symbols", size),
         report=lent(generator, "report", 64 * size),
+        totals=totals_slice(generator, size),
         text=lent(generator, "text", size),
     )
 

@@ -15,9 +15,10 @@ Open points in the paper, and the reading chosen for each:
     number, so it is returned only where nothing else fits.
  3. The needed lengths are not gathered in one place. Each must be met
     exactly: map N, coefficients n * N/2, message K, samples 64 * N, frame
-    64 * N, work buffer 65 * N, symbols N, report 64 * N, decoded message K.
-    No buffer is lent for the codeword or for the numbers it is spread to, so
-    none can have a wrong length. With n refused no length is looked at.
+    64 * N, work buffer 65 * N, symbols N, report 64 * N, totals N, decoded
+    message K. No buffer is lent for the codeword or for the numbers it is
+    spread to, so none can have a wrong length. With n refused no length is
+    looked at.
  4. K is the count of 0 bytes, also where the map has bytes above 1 or another
     length than N. Message and decoded message are measured by that K.
  5. With K = 0 the needed message is empty, so 5 and 7 never fit together
@@ -50,15 +51,20 @@ Open points in the paper, and the reading chosen for each:
 16. What lent buffers hold before the call is never looked at, and the work
     buffer, all zeros afterwards, is no part of the answer. "Buffers
     unchanged" is shown by the answer None.
-17. The order of what is answered is open. Symbols, report and count follow
-    each other as in decode, with samples and frame before them and the
-    decoded message after them.
+17. The order of what is answered is open. Symbols, report, totals and count
+    follow each other as in decode, with samples and frame before them and
+    the decoded message after them.
 18. The frame printed by the program in the paper names no samples. It is that
     of a sent word, the transform of (0, 33), and is reached here with base 1,
     amplitude 10 and gain 3/20.
 19. By request 02 a sample -128 is a lost one. The samples here are +A and -A,
     A being at most 127, so none of them is lost, and the noiseless statement
     is read as before.
+20. Request 03 speaks of the decoder and of its callers. The chain lends the
+    same buffer of N totals and hands on what the decoder leaves there. The
+    least that weighing subtracts is no part of it; that of a sent symbol is 0
+    here anyway. Where the premise holds each total is 0, as the sent word has
+    penalty 0 at each place.
 """
 
 import collections
@@ -133,7 +139,7 @@ def premise_holds(base, amplitude, top, bottom, Qc, codeword):
 
 def link_refusal(n, map, coefs, message, base, amplitude, top, bottom, Qc, Qm,
                  samples_length, frame_length, work_length, symbols_length,
-                 report_length, decoded_length):
+                 report_length, totals_length, decoded_length):
     """The lowest number that fits the call of the whole chain, or 0."""
     if not n_is_valid(n):
         return 1
@@ -154,6 +160,8 @@ def link_refusal(n, map, coefs, message, base, amplitude, top, bottom, Qc, Qm,
     if symbols_length != N:
         return 2
     if report_length != 64 * N:
+        return 2
+    if totals_length != N:
         return 2
     if decoded_length != K:
         return 2
@@ -180,17 +188,18 @@ def link_refusal(n, map, coefs, message, base, amplitude, top, bottom, Qc, Qm,
 
 # What the call answers when it takes its input, each a list but the count.
 Answer = collections.namedtuple(
-    "Answer", ["samples", "frame", "symbols", "report", "count", "message"])
+    "Answer", ["samples", "frame", "symbols", "report", "totals", "count",
+               "message"])
 
 
 def link(n, map, coefs, message, base, amplitude, top, bottom, Qc, Qm,
          samples_length, frame_length, work_length, symbols_length,
-         report_length, decoded_length):
+         report_length, totals_length, decoded_length):
     """The whole chain: (0, the namedtuple Answer), or (refusal, None)."""
     refusal = link_refusal(n, map, coefs, message, base, amplitude, top,
                            bottom, Qc, Qm, samples_length, frame_length,
                            work_length, symbols_length, report_length,
-                           decoded_length)
+                           totals_length, decoded_length)
     if refusal != 0:
         return (refusal, None)
     N = 2 ** n
@@ -201,9 +210,9 @@ def link(n, map, coefs, message, base, amplitude, top, bottom, Qc, Qm,
     samples = sent_samples(numbers, amplitude)
     number, frame = weigh(base, samples, top, bottom, Qc, frame_length)
     assert number == 0
-    number, symbols, report, count = decode(n, map, coefs, Qc, Qm, frame,
-                                            work_length, symbols_length,
-                                            report_length)
+    number, symbols, report, totals, count = decode(
+        n, map, coefs, Qc, Qm, frame, work_length, symbols_length,
+        report_length, totals_length)
     assert number == 0
     decoded = message_of(map, symbols)
     # Each lent buffer is filled exactly.
@@ -211,8 +220,10 @@ def link(n, map, coefs, message, base, amplitude, top, bottom, Qc, Qm,
     assert len(frame) == frame_length
     assert len(symbols) == symbols_length
     assert len(report) == report_length
+    assert len(totals) == totals_length
     assert len(decoded) == decoded_length
-    return (0, Answer(samples, frame, symbols, report, count, decoded))
+    return (0, Answer(samples, frame, symbols, report, totals, count,
+                      decoded))
 
 
 # --- Worked rows -------------------------------------------------------------
@@ -225,7 +236,7 @@ def arguments(n, map, coefs, message, base, amplitude, top, bottom, Qc, Qm):
                 amplitude=amplitude, top=top, bottom=bottom, Qc=Qc, Qm=Qm,
                 samples_length=64 * N, frame_length=64 * N,
                 work_length=65 * N, symbols_length=N, report_length=64 * N,
-                decoded_length=K)
+                totals_length=N, decoded_length=K)
 
 
 def test_worked_rows():
@@ -283,6 +294,7 @@ def test_worked_rows():
     assert answer.frame == [0] * 256
     assert answer.symbols == [0, 0, 0, 0]
     assert answer.report == [0] * 256
+    assert answer.totals == [0] * 4
     assert answer.count == 0
     assert answer.message == [0]
 
@@ -297,6 +309,7 @@ def test_worked_rows():
     assert answer.frame == spike(33, 3) + spike(1, 3)
     assert listing(answer.symbols, answer.report) == [
         (0, 0, 0, 3), (1, 33, 0, 6)]
+    assert answer.totals == [0, 0]
     assert answer.count == 0
     assert answer.message == [33]
     # With Qc = Qm = 2 the 6 becomes 3 and the count is 63.  The cap of 3 lets
@@ -308,6 +321,7 @@ def test_worked_rows():
         assert answer.frame == spike(33, 3) + spike(1, 3)
         assert listing(answer.symbols, answer.report) == [
             (0, 0, 0, 3), (1, 33, 0, 3)]
+        assert answer.totals == [0, 0]
         assert answer.count == 63
         assert answer.message == [33]
 
@@ -427,6 +441,7 @@ def test_random_case(given, tally):
         tally["premise holds"] += 1
         assert answer.symbols == u
         assert answer.message == message
+        assert answer.totals == [0] * N
         for place in range(N):
             penalties = place_penalties(answer.report, place)
             assert penalties[u[place]] == 0
@@ -441,6 +456,8 @@ def test_random_case(given, tally):
             tally["premise holds, least penalty of a wrong symbol 1"] += 1
     else:
         tally["premise fails"] += 1
+        if max(answer.totals) > 0:
+            tally["premise fails, a total above 0"] += 1
         if max(answer.frame) == 0:
             tally["premise fails, frame all zeros"] += 1
         if answer.count > 0:
@@ -472,7 +489,8 @@ def test_random_cases():
                  "premise holds, Qm = Qc",
                  "premise holds, Qm = Qc and clipped",
                  "premise holds, least penalty of a wrong symbol 1",
-                 "premise fails", "premise fails, clipped",
+                 "premise fails", "premise fails, a total above 0",
+                 "premise fails, clipped",
                  "premise fails, same message",
                  "premise fails, other message",
                  "premise fails, other message, frame not all zeros"):
@@ -485,9 +503,9 @@ def test_random_cases():
 # Arguments that are taken, from which each fault starts.
 GOOD = arguments(2, [1, 0, 1, 0], [2, 1, 1, 63], [7, 63], 1, 10, 1, 4, 3, 3)
 
-# The names of the six lengths of lent buffers.
+# The names of the seven lengths of lent buffers.
 LENGTHS = ["samples_length", "frame_length", "work_length", "symbols_length",
-           "report_length", "decoded_length"]
+           "report_length", "totals_length", "decoded_length"]
 
 
 def value_fault(name, value):
@@ -598,7 +616,8 @@ def all_faults():
 
 def refusal_of_parts(n, map, coefs, message, base, amplitude, top, bottom, Qc,
                      Qm, samples_length, frame_length, work_length,
-                     symbols_length, report_length, decoded_length):
+                     symbols_length, report_length, totals_length,
+                     decoded_length):
     """The least refusal of the calls of the chain and of what only it has."""
     if n < 1 or n > 8:
         return 1
@@ -609,7 +628,8 @@ def refusal_of_parts(n, map, coefs, message, base, amplitude, top, bottom, Qc,
     numbers.append(weigh_refusal(base, [0] * samples_length, top, bottom, Qc,
                                  frame_length))
     numbers.append(decode_refusal(n, map, coefs, Qc, Qm, [0] * frame_length,
-                                  work_length, symbols_length, report_length))
+                                  work_length, symbols_length, report_length,
+                                  totals_length))
     if samples_length != 64 * N:
         numbers.append(2)
     if decoded_length != map.count(0):

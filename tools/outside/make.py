@@ -4,7 +4,8 @@ expected of each.
 Writes crates/recorded_calls/stdin and stdout, crates/endings and
 crates/decode; the same bytes in each run.  With --check it writes nothing,
 says whether the stored files are those, and counts how often each call gives
-each number.
+each number.  In each run the totals are compared with those found by trying
+words; where they differ it ends at once.
 """
 
 import argparse
@@ -27,6 +28,8 @@ import lost_cases
 import program_cases
 import reading_cases
 import records
+import totals_cases
+import totals_check
 import worked_cases
 import writing_cases
 
@@ -62,9 +65,12 @@ NUMBERS = {
 def work(letter, call):
     """About how much work a call is, if it is taken: the entries of its
     slices, 64 additions for each sample that is weighed, and 4,096 for each
-    kernel."""
+    kernel.
+
+    The totals are not counted: the records have the order that they had before
+    there were any."""
     total = sum(part.length for name, part in call.items()
-                if name in records.BUFFERS)
+                if name in records.BUFFERS and name != "totals")
     if letter in "dt":
         total += 64 * call["samples"].length
     if letter in "Dto" and call["n"] <= 8:
@@ -77,12 +83,32 @@ def block_work(block):
     return sum(work(*records.parse(line)) for line in block)
 
 
-def record_lines():
-    """The lines of all records, those of short calls first; records that
-    belong together stay so."""
-    blocks = [block for part in PARTS for block in part.blocks()]
+def part_lines(parts):
+    """The lines of the records of some parts, those of short calls first;
+    records that belong together stay so."""
+    blocks = [block for part in parts for block in part.blocks()]
     return [line for block in sorted(blocks, key=block_work)
             for line in block]
+
+
+def record_lines():
+    """The lines of all records.
+
+    Those of totals_cases come before and after those of the other parts, as
+    the others' lines would else depend on what they leave in the buffers."""
+    first = [line for block in totals_cases.first_blocks() for line in block]
+    return first + part_lines(PARTS) + part_lines([totals_cases])
+
+
+def worked_lines(lines):
+    """The line that is printed for each record, and what was compared of the
+    totals."""
+    check = totals_check.Check()
+    printed = []
+    for worked in calls.worked_out(lines):
+        check.look(worked)
+        printed.append(worked.line)
+    return printed, check.text()
 
 
 def file_of(lines):
@@ -163,12 +189,13 @@ def main():
     parser.add_argument("--check", action="store_true")
     given = parser.parse_args()
     lines = record_lines()
-    printed = list(calls.expected(lines))
+    printed, totals = worked_lines(lines)
     made = made_files(lines, printed)
     counts = answers(lines, printed)
     wrong = list(complaints(counts))
     if given.check:
         show_counts(counts)
+        print(totals)
         wrong += ["%s is another file" % name for name in differing(made)]
     else:
         for name, data in made.items():

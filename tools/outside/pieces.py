@@ -9,12 +9,15 @@ import collections
 import records
 import scms
 
-from draws import draw_base, halves_alike, pick
+from draws import Generator, draw_base, halves_alike, pick
 
 # What lent slices hold before a call: nothing that the call would write there.
 UNTOUCHED = {"map": 255, "coefs": 255, "symbols": 255, "text": 255,
              "frame": 47110, "work": 4711, "report": 47110, "numbers": 4711,
              "samples": 128}
+
+# What makes the state of a generator that of another, for the totals.
+TOTALS_STATE = 303303303
 
 
 # --- Slices ------------------------------------------------------------------
@@ -29,6 +32,27 @@ def lent(generator, name, length):
     if mode == 1:
         return records.same(length)
     return records.repeated(length, value)
+
+
+def own_generator(generator):
+    """Another generator, which begins where the state of the given one says;
+    the given one draws nothing for it."""
+    return Generator(generator.state ^ TOTALS_STATE)
+
+
+def totals_slice(generator, size):
+    """The totals lent: mostly any 16-bit numbers, at times the largest
+    throughout, or 0.
+
+    They came after the other slices of a call, so they are drawn from a
+    generator of their own, and what the others draw is as it was."""
+    own = own_generator(generator)
+    mode = own.draw() % 8
+    if mode < 2:
+        return records.repeated(size, 65535)
+    if mode == 2:
+        return records.repeated(size, 0)
+    return records.drawn(size, own.draw(), 0, 65536, 65535)
 
 
 def map_slice(generator, size):

@@ -265,9 +265,9 @@ def run(code, frame):
         return five_columns(number) + b"\n"
     n, map, coefs, penalties = found
     N = 2 ** n
-    number, symbols, report, count = decode(n, map, coefs, PROGRAM_QC,
-                                            PROGRAM_QM, penalties,
-                                            65 * N, N, 64 * N)
+    number, symbols, report, totals, count = decode(
+        n, map, coefs, PROGRAM_QC, PROGRAM_QM, penalties, 65 * N, N, 64 * N,
+        N)
     # What the two readers take, the decoder takes.
     assert number == ACCEPTED
     printed = b""

@@ -25,6 +25,7 @@ BUFFERS = {
     "frame": (16, 20000),
     "work": (16, 20000),
     "report": (16, 20000),
+    "totals": (16, 600),
     "numbers": (64, 300),
     "samples": (8, 20000),
 }
@@ -41,9 +42,9 @@ FIELDS = {
     "c": "amplitude noise lost seed numbers | samples",
     "d": "base samples top bottom Qc | frame",
     "p": "frame place |",
-    "D": "n map coefs Qc Qm frame | work symbols report",
+    "D": "n map coefs Qc Qm frame | work symbols report totals",
     "t": ("n map coefs message base amplitude top bottom Qc Qm "
-          "| samples frame work symbols report text"),
+          "| samples frame work symbols report totals text"),
     "h": "text | map coefs",
     "l": "text | frame",
     "f": "verdict text | frame",

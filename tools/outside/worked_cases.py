@@ -17,7 +17,7 @@ TWO = dict(n=1, map=written([1, 0]))
 
 # What the lent buffers of a call for N = 2 hold before it.
 LENT = dict(work=repeated(130, 4711), symbols=repeated(2, 255),
-            report=repeated(128, 4711))
+            report=repeated(128, 4711), totals=repeated(2, 65535))
 
 
 def spike(value, rest):
@@ -59,19 +59,118 @@ def lost_rows():
 
 
 def decode_rows():
-    """The two frames of N = 2; the second clips at Qc = Qm = 2."""
+    """The two frames of N = 2; the second clips at Qc = Qm = 2.
+
+    With 0 decided at place 0 the sums of place 1 are, in the first frame, 2,
+    but 1 at 4 and 5: 1 is taken off.  In the second they are 6, but 0 at 33,
+    as 2 times 33 is 1: nothing is taken off, clipped or not."""
     frame = written(spike(5, 1) + spike(4, 1))
     last = [0 if b in (4, 5) else 1 for b in range(64)]
     for Qm in (1, 13):
         call = dict(TWO, coefs=written([1]), Qc=1, Qm=Qm, frame=frame, **LENT)
         yield "D", call, [0, 0], dict(
-            work=[0] * 130, symbols=[0, 4], report=spike(1, 1) + last)
+            work=[0] * 130, symbols=[0, 4], report=spike(1, 1) + last,
+            totals=[0, 1])
     frame = written(spike(33, 3) + spike(1, 3))
     for Qc, Qm, count, far in ((5, 13, 0, 6), (2, 2, 63, 3)):
         call = dict(TWO, coefs=written([2]), Qc=Qc, Qm=Qm, frame=frame, **LENT)
         yield "D", call, [0, count], dict(
             work=[0] * 130, symbols=[0, 33],
-            report=spike(0, 3) + spike(33, far))
+            report=spike(0, 3) + spike(33, far), totals=[0, 0])
+
+
+# N = 4 with all coefficients 1 and place 3 alone a message place, and what the
+# lent buffers of a call for it hold.
+LAST = dict(n=2, map=written([1, 1, 1, 0]), coefs=repeated(4, 1),
+            work=repeated(260, 4711), symbols=repeated(4, 255),
+            report=repeated(256, 4711), totals=repeated(4, 65535))
+
+
+def penalties(others, rest):
+    """64 penalties: some by value, the same at all others."""
+    return [others.get(b, rest) for b in range(64)]
+
+
+def apart_row(Qc, Qm):
+    """Four vectors that are 0 at 1, 2, 4 and 8, else 1, 2, 3 and 4.
+
+    Layer 1, kernels of places 0 and 2, 1 and 3.  Check nodes: 0 at 5, else
+    1; and 0 at 10, else 2.
+    Layer 2, place 0: 0 at 15, else 1.  It is frozen, so it is 0.
+    Layer 2, place 1: the sums are 2 at 5, 1 at 10, else 3; 1 is taken off.
+    Layer 1, variable nodes with 0 and 0 before them: the sums are 3 at 1, 1
+    at 4, else 4, and 1 is taken off; 4 at 2, 2 at 8, else 6, and 2 is taken
+    off.  That is 3 for places 2 and 3.
+    Layer 2, place 2, of (2 at 1, 0 at 4, else 3) and (2 at 2, 0 at 8, else
+    4): 0 at 12, 2 at 6 and 9, else 3.
+    Layer 2, place 3: the sums are 6 at 1, 5 at 2, 4 at 4, 3 at 8, else 7; 3
+    is taken off, which is 6 with the 3 before.
+    """
+    frame = spike(1, 1) + spike(2, 2) + spike(4, 3) + spike(8, 4)
+    report = spike(15, 1) + penalties({5: 1, 10: 0}, 2)
+    report += penalties({12: 0, 6: 2, 9: 2}, 3)
+    report += penalties({1: 3, 2: 2, 4: 1, 8: 0}, 4)
+    call = dict(LAST, Qc=Qc, Qm=Qm, frame=written(frame))
+    return "D", call, [0, 0], dict(
+        work=[0] * 260, symbols=[0, 0, 0, 8], report=report,
+        totals=[0, 1, 3, 6])
+
+
+def beside_row(Qc, Qm):
+    """Four vectors that are 0 at 1, 2, 4 and 2, else 3.
+
+    Check nodes of layer 1: 0 at 5, else 3; 0 at 0, else 3.  Place 0: 0 at 5,
+    else 3.  Place 1: the sums are 3 at 0 and 5, else 6; 3 is taken off.
+    Variable nodes of layer 1: the sums are 3 at 1 and 4, else 6, and 3 is
+    taken off; 0 at 2, else 6, and nothing is taken off.  With Qm = 2 these 63
+    entries are clipped to 3.
+    Place 2, of (0 at 1 and 4, else 3) and of what is 0 at 2: 0 at 3 and 6,
+    else 3.  It has 3 and nothing.
+    Place 3, clipped: the sums are 3 at 1, 2 and 4, else 6.  Not clipped: 6 at
+    1, 3 at 2, 6 at 4, else 9.  3 is taken off in either, which is 6.
+    """
+    frame = spike(1, 3) + spike(2, 3) + spike(4, 3) + spike(2, 3)
+    report = spike(5, 3) + penalties({0: 0, 5: 0}, 3)
+    report += penalties({3: 0, 6: 0}, 3)
+    if Qm == 2:
+        report += penalties({1: 0, 2: 0, 4: 0}, 3)
+    else:
+        report += penalties({1: 3, 2: 0, 4: 3}, 6)
+    call = dict(LAST, Qc=Qc, Qm=Qm, frame=written(frame))
+    return "D", call, [0, 63 if Qm == 2 else 0], dict(
+        work=[0] * 260, symbols=[0, 0, 0, 1 if Qm == 2 else 2],
+        report=report, totals=[0, 3, 3, 6])
+
+
+def clipped_row(Qc, Qm):
+    """Four vectors that are 0 at 1, 2, 1 and 2, else 3.
+
+    Check nodes of layer 1: 0 at 0, else 3, both.  Place 0: the same.  Place
+    1: 0 at 0, else 6, and nothing is taken off.
+    Variable nodes of layer 1: 0 at 1, else 6; 0 at 2, else 6; nothing is
+    taken off.  With Qm = 2 each of these three 6 is a 3, for 63 entries.
+    Place 2: 0 at 3, else 6 or 3.
+    Place 3: the sums are 6 at 1 and 2, else 12, and 6 is taken off; clipped
+    they are 3 at 1 and 2, else 6, and 3 is taken off.
+    """
+    frame = spike(1, 3) + spike(2, 3) + spike(1, 3) + spike(2, 3)
+    far = 3 if Qm == 2 else 6
+    report = spike(0, 3) + spike(0, far) + spike(3, far)
+    report += penalties({1: 0, 2: 0}, far)
+    call = dict(LAST, Qc=Qc, Qm=Qm, frame=written(frame))
+    return "D", call, [0, 189 if Qm == 2 else 0], dict(
+        work=[0] * 260, symbols=[0, 0, 0, 1], report=report,
+        totals=[0, 0, 0, far])
+
+
+def totals_rows():
+    """Frames of N = 4, which the paper does not have, worked by hand for the
+    sake of their totals, at two precisions each."""
+    for Qm in (3, 13):
+        yield apart_row(3, Qm)
+    for Qm in (2, 13):
+        yield beside_row(2, Qm)
+        yield clipped_row(2, Qm)
 
 
 def listing_rows():
@@ -89,9 +188,9 @@ def trip_rows():
     lent = dict(LENT, samples=repeated(128, 128), frame=repeated(128, 4711),
                 text=repeated(1, 255))
     for amplitude, top, bottom, Qc, Qm, numbers, left in (
-            (10, 3, 20, 5, 13, [0, 0], dict(text=[33])),
-            (10, 3, 20, 2, 2, [0, 63], dict(text=[33])),
-            (10, 1, 40, 3, 13, [0, 0], dict(text=[0])),
+            (10, 3, 20, 5, 13, [0, 0], dict(text=[33], totals=[0, 0])),
+            (10, 3, 20, 2, 2, [0, 63], dict(text=[33], totals=[0, 0])),
+            (10, 1, 40, 3, 13, [0, 0], dict(text=[0], totals=[0, 0])),
             (128, 3, 20, 5, 13, [19], {})):
         call = dict(TWO, coefs=written([2]), message=written([33]), base=1,
                     amplitude=amplitude, top=top, bottom=bottom, Qc=Qc, Qm=Qm,
@@ -141,12 +240,18 @@ def rows():
         yield from part()
 
 
-def blocks():
-    """The records, each compared with what the paper says."""
-    for letter, call, numbers, left in rows():
+def compared(found_rows):
+    """The records of rows, each compared with what is said of it."""
+    for letter, call, numbers, left in found_rows:
         line = records.record(letter, call)
         found, entries = calls.CALLS[letter](records.Buffers().expand(line)[1])
         assert found == numbers, line
         for name in left:
             assert list(entries[name]) == list(left[name]), line
         yield [line]
+
+
+def blocks():
+    """The records of the rows of the paper; those of totals_rows() are used
+    in totals_cases.py."""
+    yield from compared(rows())

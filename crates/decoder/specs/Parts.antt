@@ -154,12 +154,12 @@ pub record OnePlace (block : BlockAt) (map frame work word symbols report totals
   pub totals-long : length totals ≡ 1
   pub numbered : Numbered (block .places) (block .at) frame work
 
--- and what it leaves: the symbol decided from the place's vector, which is reported, and what was taken off
+-- and what it leaves: what was taken off, the symbol decided from the place's vector, and this vector reported
 pub record PlaceDecoded (block : BlockAt) (map frame work word symbols report totals : List ℕ) : Type 0 where
+  pub totals-are : totals ≡ block .taken ∷ []
   pub word-is : word ≡ decision (kindOf (getD map 0 0)) (vectorAt (frame ++ work) (block .at)) ∷ []
   pub symbols-are : symbols ≡ decision (kindOf (getD map 0 0)) (vectorAt (frame ++ work) (block .at)) ∷ []
   pub report-is : vectorAt report 0 ≡ vectorAt (frame ++ work) (block .at)
-  pub totals-are : totals ≡ block .taken ∷ []
 
 -- ---- a block
 

@@ -2,20 +2,20 @@
 use mathlib.Core.Path.{_≡_, sym, ap, _∙_, subst}
 use mathlib.Core.Logic.{_⊎_, inl, inr}
 use mathlib.Core.List.{List}
-use Prim.Native.Nat.{ℕ, zero, suc, _+_, _*_, _/_, _%_, _-_, _^_, _≤_, _<_}
+use Prim.Native.Nat.{ℕ, zero, suc, _*_, _/_, _%_, _-_, _^_, _≤_, _<_}
 use native.Mathlib.Nat.{le-refl, le-of-suc-le-suc, eq-or-lt-of-le, not-suc-le-zero, zero-div, zero-mul}
 use native.Mathlib.Omega.{arith}
 use lib.Dec.{lit<}
 use lib.Pow.{pow-pos}
 use lib.ListN.{length, getD, length-set, length-replicate, getD-replicate}
 use lib.Seq.{getD-set-same, getD-set-other, ext-getD}
-use Rattle.vector.specs.Vector.{vectorAt, sumTo}
+use Rattle.vector.specs.Vector.{vectorAt}
 use Rattle.vector.proofs.Laws.{getD-tabulate, sum-none, joined-part, length-joined}
 use Rattle.polar_code.specs.Code.{Code, kindOf, IsWord}
 use Rattle.polar.proofs.Numbers.{lt-or-le}
 use Rattle.scms.specs.Mode.{Mode}
 use Rattle.scms.specs.Decision.{decision}
-use Rattle.scms.specs.Decoder.{loweredAt, takenIn, takenOff, heldAt, decidedTo, held, symbols, report, totals}
+use Rattle.scms.specs.Decoder.{takenIn, takenOff, heldAt, decidedTo, held, symbols, report, totals}
 use Rattle.scms.specs.Claims.{Agree, FirstTotal}
 use Rattle.scms.proofs.DecisionLaws.{decision-lt}
 use Rattle.scms.proofs.VectorLaws.{vector-long}
@@ -143,8 +143,8 @@ module _ (code : Code) (mode : Mode) (frame : List ℕ) where
   pub first-total : FirstTotal code mode frame
   unfolding takenOff takenIn
   first-total =
-      total-place 0 (pow-pos n)
-      ∙ sum-none n (λ d. takenIn code mode frame (symbols code mode frame) (suc d) 0) (λ d l.
-      let size = 2 ^ (n - suc d) in
-      ap (λ (q : ℕ). q % 2 * sumTo size (λ k. loweredAt code mode frame (symbols code mode frame) (suc d) (0 / (2 * size) * size + k) .taken)) (zero-div size)
-      ∙ zero-mul _)
+      total-place 0 (pow-pos n) ∙ sum-none _ _ (λ d l. none-counted _ _)
+    where
+      -- place 0 is in the first half of every block
+      none-counted : (half x : ℕ) → 0 / half % 2 * x ≡ 0
+      none-counted half x = ap (λ (q : ℕ). q % 2 * x) (zero-div half) ∙ zero-mul x

@@ -1,28 +1,32 @@
--- What is decided depends on earlier places only: u at a θ on those before φ's half of the block, the vector held at a place on those
--- before it.
+-- What is decided depends on earlier places only: u at a θ on those before φ's half of the block, the vector held at a place and what was
+-- taken off along its line on those before it.
 use mathlib.Core.Path.{_≡_, refl, sym, ap, ap₂, _∙_, subst}
 use mathlib.Core.Logic.{_⊎_, inl, inr}
 use mathlib.Core.List.{List, []}
 use Prim.Native.Nat.{ℕ, zero, suc, _+_, _*_, _/_, _%_, _-_, _^_, _≤_, _<_}
 use native.Mathlib.Nat.{add-zero, mod-lt, div-add-mod', div-lt-iff-lt-mul}
 use native.Mathlib.Omega.{arith}
-use lib.ListN.{length, getD}
-use lib.Pow.{pow-pos}
+use lib.ListN.{length, getD, take, drop}
+use lib.Pow.{pow-pos, shr-lt}
 use Rattle.refusal.specs.Tests.{Within}
+use Rattle.vector.specs.Vector.{sumTo}
+use Rattle.vector.proofs.Laws.{sum-ext}
 use Rattle.polar_code.specs.Code.{Code}
 use Rattle.polar.specs.Transform.{phi, coefficient, layers}
-use Rattle.polar.specs.Tree.{Tree, at, number}
+use Rattle.polar.specs.Tree.{Tree, treeOf, at, number}
 use Rattle.polar.specs.Halves.{transformTree, coefsAt}
-use Rattle.polar.proofs.Numbers.{two-pow, half-blocks}
+use Rattle.polar.proofs.Numbers.{two-pow, half-blocks, lt-or-le}
 use Rattle.polar.proofs.TreeLaws.{place-of, ext-at}
 use Rattle.polar.proofs.Kernels.{phi-is}
 use Rattle.polar.proofs.Windows.{window, window-ext}
 use Rattle.polar.proofs.ByHalves.{block-halves}
 use Rattle.scms.specs.Mode.{Mode}
 use Rattle.scms.specs.Nodes.{checkNode, variableNode}
-use Rattle.scms.specs.Decoder.{thetaSymbol, vectors, heldAt}
+use Rattle.scms.specs.Decoder.{thetaSymbol, vectors, loweredAt, takenIn, takenOff, heldAt}
+use Rattle.scms.specs.Halves.{takenNodes}
 use Rattle.scms.specs.Claims.{Agree, OnlyEarlier}
 use Rattle.scms.proofs.Blocks.{block-fits, u-in-block, check-of, variable-of}
+use Rattle.scms.proofs.BlockSums.{taken-first, taken-second, taken-sum}
 
 -- a number is twice its half, or one more
 halved : (w : ℕ) → (w ≡ w / 2 * 2) ⊎ (w ≡ w / 2 * 2 + 1)
@@ -99,6 +103,16 @@ module _ (code : Code) (mode : Mode) (frame s r : List ℕ) (ls : length s ≡ 2
         (u-agrees n cs s r ls lr d m w o e eo fits a)
         ∙ sym (variable-of code mode frame r d m w o e eo fits p))
 
+    -- what its kernels take off
+    taken-same : Agree (o + 2 ^ m) s r
+        → sumTo (2 ^ m) (λ k. loweredAt code mode frame s (suc d) (w * 2 ^ m + k) .taken) ≡ sumTo (2 ^ m) (λ k. loweredAt code mode frame r (suc d) (w * 2 ^ m + k) .taken)
+    taken-same a =
+        let start = d * (2 ^ n / 2) + o / 2 in
+        let u = u-agrees n cs s r ls lr d m w o e eo fits a in
+        sym (taken-sum code mode frame s d m w o e eo start refl)
+        ∙ (λ j. takenNodes m (treeOf 1 m (take (2 ^ m) (drop start cs))) (first-same j) (second-same j) (u j))
+        ∙ taken-sum code mode frame r d m w o e eo start refl
+
   -- every layer: block w of the 2^d blocks of 2^m places
   vectors-earlier : (d m w o : ℕ) → d + m ≡ n → o ≡ w * 2 ^ m → w < 2 ^ d → Agree o s r → Same m o d
   unfolding vectors
@@ -129,6 +143,51 @@ module _ (code : Code) (mode : Mode) (frame s r : List ℕ) (ls : length s ≡ 2
           let f = ih c (omega arith) c-is below (λ j l. a j (omega arith)) in
           subst (λ (x : ℕ). Same m x (suc d)) (sym k) (variable-same d m (w / 2) c (omega arith) refl fits f (λ j l. a j (omega arith)))
 
+  -- what layer d + 1 took off along the line of place i, which lies in block w of 2 × 2^m places from c on
+  line-same : (d m i : ℕ) → d + suc m ≡ n → i < 2 ^ n → Agree i s r → takenIn code mode frame s (suc d) i ≡ takenIn code mode frame r (suc d) i
+  line-same d m i e l a = go (lt-or-le x (2 ^ m))
+    where
+      size : 2 ^ suc m ≡ 2 ^ m + 2 ^ m
+      size = two-pow m
+
+      w : ℕ
+      w = i / 2 ^ suc m
+
+      x : ℕ
+      x = i % 2 ^ suc m
+
+      c : ℕ
+      c = w * (2 ^ m + 2 ^ m)
+
+      c-is : w * (2 ^ m + 2 ^ m) ≡ w * 2 ^ suc m
+      c-is = ap (λ (k : ℕ). w * k) (sym size)
+
+      i-is : w * (2 ^ m + 2 ^ m) + x ≡ i
+      i-is = ap (λ (k : ℕ). k + x) c-is ∙ div-add-mod' i (2 ^ suc m)
+
+      below : w < 2 ^ d
+      below = shr-lt d (suc m) (subst (λ (k : ℕ). i < 2 ^ k) (sym e) l)
+
+      fits : w * (2 ^ m + 2 ^ m) + (2 ^ m + 2 ^ m) ≤ 2 ^ n
+      fits = block-fits n d m w e below
+
+      go : (x < 2 ^ m) ⊎ (2 ^ m ≤ x) → takenIn code mode frame s (suc d) i ≡ takenIn code mode frame r (suc d) i
+      go (inl k) =
+          let p = place-of m x k in
+          let at-p : c + number (p .0) ≡ i = ap (λ (j : ℕ). c + j) (p .1) ∙ i-is in
+          subst (λ (j : ℕ). takenIn code mode frame s (suc d) j ≡ takenIn code mode frame r (suc d) j) at-p
+          (taken-first code mode frame s d m w c e refl (p .0) ∙ sym (taken-first code mode frame r d m w c e refl (p .0)))
+      go (inr k) =
+          let lx : x < 2 ^ suc m = mod-lt i (pow-pos (suc m)) in
+          let p = place-of m (x - 2 ^ m) (omega arith) in
+          let number-is = p .1 in
+          let at-i = i-is in
+          let at-p : c + 2 ^ m + number (p .0) ≡ i = omega arith in
+          let h = vectors-earlier d (suc m) w c e c-is below (λ j b. a j (omega arith)) in
+          subst (λ (j : ℕ). takenIn code mode frame s (suc d) j ≡ takenIn code mode frame r (suc d) j) at-p
+          (taken-second code mode frame s d m w c e refl (p .0) ∙ taken-same d m w c e refl fits h (λ j b. a j (omega arith))
+          ∙ sym (taken-second code mode frame r d m w c e refl (p .0)))
+
 -- u at the θ of kernel t of layer l depends only on the symbols before φ's half of the block
 u-depends : (n : ℕ) (cs s r : List ℕ) → length s ≡ 2 ^ n → length r ≡ 2 ^ n → (l t : ℕ) → Within 1 n l → t < 2 ^ n / 2
     → Agree (phi n l t - t % 2 ^ (n - l)) s r
@@ -157,8 +216,10 @@ u-depends n cs s r ls lr (suc d) t lw lt a = go (n - suc d) refl (let x = lw .mo
 -- what is worked out depends on earlier places only
 pub only-earlier : (code : Code) (mode : Mode) (frame s r : List ℕ) → length s ≡ 2 ^ code .n → length r ≡ 2 ^ code .n
     → OnlyEarlier code mode frame s r
-unfolding heldAt window
+unfolding heldAt takenOff window
 only-earlier code mode frame s r ls lr = record {
   u-earlier = u-depends (code .n) (code .coefs) s r ls lr;
   held-earlier = λ i l a. vectors-earlier code mode frame s r ls lr (code .n) 0 i i (add-zero (code .n)) (omega arith) l a;
+  taken-earlier = λ i l a. sum-ext (code .n) (λ d. takenIn code mode frame s (suc d) i) (λ d. takenIn code mode frame r (suc d) i) (λ d k.
+      line-same code mode frame s r ls lr d (code .n - suc d) i (omega arith) l a);
 }

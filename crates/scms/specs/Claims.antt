@@ -14,7 +14,7 @@ use Rattle.polar.specs.Transform.{theta, phi, coefficient, transform}
 use Rattle.scms.specs.Mode.{Mode, modeOf}
 use Rattle.scms.specs.Nodes.{checkNode, clipped}
 use Rattle.scms.specs.Decoder.{thetaSymbol, vectors, thetaVector, phiVector, loweredAt}
-use Rattle.scms.specs.Decoder.{heldAt, held, symbols, totals, count}
+use Rattle.scms.specs.Decoder.{heldAt, takenOff, held, symbols, totals, count}
 use Rattle.scms.specs.Totals.{total, LeastTotal, InCode, EachZero, EachAtMost, Unclipped}
 
 -- the update rule at kernel t of layer l: θ gets the vector of the check node, φ that of the variable node, clipped
@@ -32,12 +32,14 @@ Agree i s r = (j : ℕ) → j < i → getD s j 0 ≡ getD r j 0
 
 -- two words of decided symbols, s and r: what is worked out with them differs only where they differ at an earlier
 -- place. For u at the θ of kernel t of layer l these are the places before the half of a block in which φ lies; for
--- what is held at place i, those before i
+-- what is held at place i, and for what was taken off along its line, those before i
 pub record OnlyEarlier (code : Code) (mode : Mode) (frame s r : List ℕ) : Type 0 where
   pub u-earlier : (l t : ℕ) → Within 1 (code .n) l → t < 2 ^ code .n / 2
       → Agree (phi (code .n) l t - t % 2 ^ (code .n - l)) s r
       → thetaSymbol (code .n) l t (code .coefs) s ≡ thetaSymbol (code .n) l t (code .coefs) r
   pub held-earlier : (i : ℕ) → i < 2 ^ code .n → Agree i s r → heldAt code mode frame s i ≡ heldAt code mode frame r i
+  pub taken-earlier : (i : ℕ) → i < 2 ^ code .n → Agree i s r
+      → takenOff code mode frame s i ≡ takenOff code mode frame r i
 
 -- Where the frame's penalties are at most the cap: every vector of every layer holds a 0 and no entry above the cap (a
 -- check node needs no cap), so at a cap of at most 8,191 the sum of any entry of θ's and any of φ's is below 2^16

@@ -13,39 +13,6 @@ use Rattle.decoder.proofs.Laws.{set-only}
 use Rattle.decoder.proofs.block.decode_place.Statement.{statement}
 use Rattle.decoder.proofs.block.decode_place.Tie as tie
 
-load-vector-requires : tie.Need-load-vector-requires
-load-vector-requires c κs = search needs
-
-shared-slice-read-decide : tie.Need-shared-slice-read-decide
-shared-slice-read-decide c = search needs
-
-decide-requires : tie.Need-decide-requires
-decide-requires c κs = search needs
-
-slice-write-word : tie.Need-slice-write-word
-slice-write-word c = search needs
-
-slice-write-symbols : tie.Need-slice-write-symbols
-slice-write-symbols c = search needs
-
-store-requires : tie.Need-store-requires
-store-requires c κs = search needs
-
-slice-write-totals : tie.Need-slice-write-totals
-slice-write-totals c = search needs
-
-same-length : tie.Need-same-length
-same-length c = search needs
-
-same-length-2 : tie.Need-same-length-2
-same-length-2 c = search needs
-
-same-length-3 : tie.Need-same-length-3
-same-length-3 c = search needs
-
-same-length-4 : tie.Need-same-length-4
-same-length-4 c = search needs
-
 returns : tie.Need-returns
 returns c =
     let decided = c .before .before .before .before .before in
@@ -56,26 +23,21 @@ returns c =
     let symbol = decided .decide .ensures ∙ ap (decision (kindOf (getD (a .map .now) 0 0))) v in
     let fits : 64 * (0 + 1) ≤ length (a .report .now) = omega arith in
     record {
+      totals-are = set-only (a .totals .now) (a .block .taken) (s .pre .totals-long);
       word-is = set-only (a .word .now) _ (s .pre .word-long) ∙ ap (λ (x : ℕ). x ∷ []) symbol;
       symbols-are = set-only (a .symbols .now) _ (s .pre .symbols-long) ∙ ap (λ (x : ℕ). x ∷ []) symbol;
       report-is = ap (λ (xs : List ℕ). vectorAt xs 0) (c .before .before .store .ensures)
           ∙ stored-is (a .report .now) 0 fits (loads .load-vector .result) (search needs) ∙ v;
-      totals-are = set-only (a .totals .now) (a .block .taken) (s .pre .totals-long);
     }
 
 pub decode-place-spec : {M : Type 1} → statement M
 decode-place-spec =
     tie.close
     (tie.spec
-    load-vector-requires
-    shared-slice-read-decide
-    decide-requires
-    slice-write-word
-    slice-write-symbols
-    store-requires
-    slice-write-totals
-    same-length
-    same-length-2
-    same-length-3
-    same-length-4
+    (λ c κs. search needs)
+    (λ c. search needs) (λ c κs. search needs)
+    (λ c. search needs) (λ c. search needs)
+    (λ c κs. search needs)
+    (λ c. search needs)
+    (λ c. search needs) (λ c. search needs) (λ c. search needs) (λ c. search needs)
     returns)
