@@ -6,16 +6,14 @@ use native.Mathlib.Nat.{le-trans, le-of-eq, add-zero, zero-add, mul-le-mul}
 use native.Mathlib.Omega.{arith}
 use lib.ListN.{length, getD, take, replicate}
 use lib.Pow.{pow-mono}
-use lib.Seq.{ext-getD}
 use Rattle.refusal.proofs.Laws.{when-accepted, when-refused}
 use Rattle.vector.specs.Vector.{vectorAt}
-use Rattle.vector.proofs.Laws.{length-tabulate}
 use Rattle.vector.specs.Frame.{largestLlr}
 use Rattle.vector.proofs.SliceLaws.{vector-first, joined-by}
 use Rattle.polar.specs.Tree.{map1, All, treeOf, leaves, at, number}
 use Rattle.polar.specs.Halves.{coefsAt}
 use Rattle.polar.specs.Parts.{Block}
-use Rattle.polar.proofs.TreeLaws.{number-lt, place-of, map1-at, all-by, length-leaves, leaves-number}
+use Rattle.polar.proofs.TreeLaws.{number-lt, place-of, map1-at, all-by, ext-at, leaves-number}
 use Rattle.polar.proofs.OneToOne.{coefs-nonzero}
 use Rattle.polar.proofs.EncodeLaws.{word-block}
 use Rattle.scms.specs.Decoder as scms
@@ -25,7 +23,7 @@ use Rattle.scms.specs.Claims.{LeastTotals}
 use Rattle.scms.specs.Halves.{Vectors, frameTree, decodeTree, decodeHalves}
 use Rattle.scms.proofs.TreeLists.{frame-at}
 use Rattle.scms.proofs.ByHalves.{same-answer}
-use Rattle.scms.proofs.AnswerLaws.{report-place, total-place, first-total}
+use Rattle.scms.proofs.AnswerLaws.{report-place, first-total}
 use Rattle.scms.proofs.TotalsFit.{Bounded, block-fits, frame-bounded, totals-fit}
 use Rattle.scms.proofs.Unclipped.{count-zero, never-clipped}
 use Rattle.scms.proofs.LeastTotals.{least-totals}
@@ -134,16 +132,12 @@ module _ (code : Code) (settings : Settings) (frame : List ℕ) (lent : Lent) wh
 
       -- the totals
       pub totals-decoded : ts ≡ scms.totals code mode frame
-      unfolding decodeHalves scms.totals
+      unfolding decodeHalves
       totals-decoded =
           let taken = decodeHalves code mode frame .taken in
           by-halves .totals-are
-          ∙ ext-getD 0 (leaves n (map1 n (λ x. x + 0) taken)) (scms.totals code mode frame)
-          (length-leaves ℕ n (map1 n (λ x. x + 0) taken) ∙ sym (length-tabulate (2 ^ n) (scms.takenOff code mode frame (scms.symbols code mode frame)))) (λ i s.
-          let l : i < 2 ^ n = subst (λ (x : ℕ). i < x) (length-leaves ℕ n (map1 n (λ x. x + 0) taken)) s in
-          let p = place-of n i l .0 in
-          leaves-number 0 n i l (map1 n (λ x. x + 0) taken) ∙ map1-at (λ x. x + 0) p taken ∙ add-zero (at taken p)
-          ∙ sym (leaves-number 0 n i l taken) ∙ same-answer code mode frame .same-taken i l ∙ sym (total-place code mode frame i l))
+          ∙ ap (leaves n) (ext-at n (map1 n (λ x. x + 0) taken) taken (λ p. map1-at (λ x. x + 0) p taken ∙ add-zero (at taken p)))
+          ∙ same-answer code mode frame .same-totals
 
   -- ---- the promise
 

@@ -101,6 +101,14 @@ decoderRows mode =
     ∷ record { given = totals (workedCode 1) mode frame; expected = 0 ∷ 1 ∷ [] }
     ∷ []
 
+-- N = 4, all coefficients 1, places 0 to 2 frozen
+abbrev pub fourCode : Code
+fourCode = codeOf 2 (1 ∷ 1 ∷ 1 ∷ 0 ∷ []) (1 ∷ 1 ∷ 1 ∷ 1 ∷ [])
+
+-- four vectors that are 0 at 1, 2, 4 and 8, else 1, 2, 3 and 4
+abbrev pub fourFrame : List ℕ
+fourFrame = zeroAt 1 1 ++ (zeroAt 2 2 ++ (zeroAt 4 3 ++ zeroAt 8 4))
+
 -- the sheet 1, 1, 0, 2 (n = 1, place 0 frozen, coefficient 2); first vector 0 at 33, else 3; second 0 at 1, else 3. The
 -- symbols are 0 and 33. At Qm = 13, for each place the penalty held for its symbol and that held for every other value
 -- are 0 and 3, 0 and 6, and the count is 0. With Qc = Qm = 2 the 6 becomes 3 and the count is 63. Nothing is taken off
@@ -215,8 +223,9 @@ receivedBy bottom qm = record { top = 1; bottom = bottom; settings = settingsOf 
 
 -- the claim over the whole table: every row's two sides are the same; those samples are what is sent for symbol 0 with
 -- amplitude 10; and with base 1, amplitude 10 and Qc 3 the noiseless statement's premise fails for gain 1/40 and holds
--- for gain 1/20, whatever code and message are sent; and whatever comes after the first line of a sheet and whatever
--- buffers are lent, `   9` gives 1 and `  08` gives 12
+-- for gain 1/20, whatever code and message are sent; whatever comes after the first line of a sheet and whatever
+-- buffers are lent, `   9` gives 1 and `  08` gives 12; and the totals of the frame of N = 4 above: layer 2 takes off 1
+-- at place 1, the two kernels of layer 1 take off 1 and 2, both for places 2 and 3, and layer 2 takes off 3 at place 3
 pub record Worked : Type 0 where
   pub rows-hold : map (λ (r : Row). r .given) rows ≡ map (λ (r : Row). r .expected) rows
   pub samples-sent : sentSymbol 1 10 0 ≡ workedSamples
@@ -226,3 +235,4 @@ pub record Worked : Type 0 where
       → NoiselessPremise (sentBy code message) (receivedBy 20 qm)
   pub nine-gives-1 : (rest frozen cs : List ℕ) → sheetRefusal (firstLine 32 57 ++ rest) frozen cs ≡ 1
   pub zero-eight-gives-12 : (rest frozen cs : List ℕ) → sheetRefusal (firstLine 48 56 ++ rest) frozen cs ≡ 12
+  pub totals-of-four : totals fourCode (modeOf 13) fourFrame ≡ 0 ∷ 1 ∷ 3 ∷ 6 ∷ []

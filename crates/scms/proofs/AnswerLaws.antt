@@ -10,7 +10,7 @@ use lib.Pow.{pow-pos}
 use lib.ListN.{length, getD, length-set, length-replicate, getD-replicate}
 use lib.Seq.{getD-set-same, getD-set-other, ext-getD}
 use Rattle.vector.specs.Vector.{vectorAt}
-use Rattle.vector.proofs.Laws.{getD-tabulate, sum-none, joined-part, length-joined}
+use Rattle.vector.proofs.Laws.{length-tabulate, getD-tabulate, sum-none, joined-part, length-joined}
 use Rattle.polar_code.specs.Code.{Code, kindOf, IsWord}
 use Rattle.polar.proofs.Numbers.{lt-or-le}
 use Rattle.scms.specs.Mode.{Mode}
@@ -133,6 +133,11 @@ module _ (code : Code) (mode : Mode) (frame : List ℕ) where
   report-place hn i l = joined-part 64 (held code mode frame) (2 ^ n) (held-long hn) i l
 
   -- ---- the totals
+
+  -- a number for each place
+  pub totals-long : length (totals code mode frame) ≡ 2 ^ n
+  unfolding totals
+  totals-long = length-tabulate (2 ^ n) (takenOff code mode frame (symbols code mode frame))
 
   -- the number of place i
   pub total-place : (i : ℕ) → i < 2 ^ n → getD (totals code mode frame) i 0 ≡ takenOff code mode frame (symbols code mode frame) i

@@ -5,6 +5,7 @@ use Prim.Native.Nat.{ℕ, zero, suc, _+_, _*_, _/_, _^_, _≤_, _<_}
 use native.Mathlib.Nat.{zero-add}
 use native.Mathlib.Omega.{arith}
 use lib.ListN.{length, getD, take, drop}
+use lib.Seq.{ext-getD}
 use Rattle.vector.specs.Vector.{sumTo}
 use Rattle.vector.proofs.Laws.{sum-ext, joined-ext}
 use Rattle.polar_code.specs.Code.{Code, kindOf}
@@ -17,12 +18,12 @@ use Rattle.polar.proofs.Windows.{window, window-at, window-all}
 use Rattle.polar.proofs.ByHalves.{block-halves, by-halves}
 use Rattle.scms.specs.Mode.{Mode}
 use Rattle.scms.specs.Decision.{decision}
-use Rattle.scms.specs.Decoder.{vectors, loweredAt, clippedAt, clipCount, takenIn, takenOff, heldAt, held, symbols, report, count}
+use Rattle.scms.specs.Decoder.{vectors, loweredAt, clippedAt, clipCount, takenIn, takenOff, heldAt, held, symbols, report, totals, count}
 use Rattle.scms.specs.Halves.{Vectors, BlockAnswer, checkNodes, variableNodes, clippedNodes, takenNodes, decodeTree, frameTree, decodeHalves, SameAnswer}
 use Rattle.scms.specs.Totals.{Unclipped}
 use Rattle.scms.proofs.TreeDecoder.{decoded-from, word-transform}
 use Rattle.scms.proofs.Blocks.{block-fits}
-use Rattle.scms.proofs.AnswerLaws.{held-final, answer-is}
+use Rattle.scms.proofs.AnswerLaws.{held-final, answer-is, totals-long, total-place}
 use Rattle.scms.proofs.Unclipped.{count-zero}
 use Rattle.scms.proofs.BlockSums.{clippedIn, takenFrom, taken-more, clipped-more, taken-first, taken-second, clipped-sum, taken-sum, checks, variables}
 
@@ -191,18 +192,27 @@ module _ (code : Code) (mode : Mode) (frame : List ℕ) where
       ∙ ap (λ (t : Tree ℕ n). leaves n (transformTree n k t)) (sym (treeOf-leaves 0 n (A .symbols)))
       ∙ sym (by-halves n cs r r-long) ∙ ap (transform n cs) (sym answer)
 
+  -- what is taken off by halves is what is taken off by index
+  taken-same : (i : ℕ) → i < 2 ^ n → getD (leaves n (A .taken)) i 0 ≡ takenOff code mode frame (symbols code mode frame) i
+  unfolding takenOff takenFrom
+  taken-same i l =
+      leaves-number 0 n i l (A .taken) ∙ whole-block .taken-is (place-of n i l .0)
+      ∙ ap₂ (λ (x : List ℕ) (j : ℕ). sumTo n (λ d. takenIn code mode frame x (suc (0 + d)) j)) (sym answer) (zero-add (number (place-of n i l .0)) ∙ place-of n i l .1)
+      ∙ sum-ext n (λ d. takenIn code mode frame (symbols code mode frame) (suc (0 + d)) i) (λ d. takenIn code mode frame (symbols code mode frame) (suc d) i)
+      (λ d ld. ap (λ (x : ℕ). takenIn code mode frame (symbols code mode frame) (suc x) i) (zero-add d))
+
   -- the two forms of the decoder say the same
   pub same-answer : SameAnswer code mode frame
-  unfolding count clipCount clippedIn takenOff takenFrom report
+  unfolding count clipCount clippedIn report
   same-answer = record {
     same-symbols = sym answer;
     same-held = held-same;
     same-report = joined-ext (2 ^ n) (λ i. getD (leaves n (A .held)) i []) (held code mode frame) held-same;
-    same-taken = λ i l.
-        leaves-number 0 n i l (A .taken) ∙ whole-block .taken-is (place-of n i l .0)
-        ∙ ap₂ (λ (x : List ℕ) (j : ℕ). sumTo n (λ d. takenIn code mode frame x (suc (0 + d)) j)) (sym answer) (zero-add (number (place-of n i l .0)) ∙ place-of n i l .1)
-        ∙ sum-ext n (λ d. takenIn code mode frame (symbols code mode frame) (suc (0 + d)) i) (λ d. takenIn code mode frame (symbols code mode frame) (suc d) i)
-        (λ d ld. ap (λ (x : ℕ). takenIn code mode frame (symbols code mode frame) (suc x) i) (zero-add d));
+    same-totals =
+        let long = length-leaves ℕ n (A .taken) in
+        ext-getD 0 (leaves n (A .taken)) (totals code mode frame) (long ∙ sym (totals-long code mode frame)) (λ i l.
+        let k : i < 2 ^ n = subst (λ (x : ℕ). i < x) long l in
+        taken-same i k ∙ sym (total-place code mode frame i k));
     same-count =
         whole-block .count-is
         ∙ sum-ext n (λ d. sumTo (2 ^ n / 2) (λ k. clippedAt code mode frame r (suc (0 + d)) (0 / 2 + k))) (λ d. sumTo (2 ^ n / 2) (clippedAt code mode frame r (suc d)))

@@ -20,7 +20,7 @@ use Rattle.scms.specs.Decoder.{held, symbols, totals}
 use Rattle.scms.specs.Totals.{Least, Begins, LeastTotal, EachZero, Unclipped}
 use Rattle.scms.specs.Claims.{LeastTotals}
 use Rattle.scms.specs.Halves.{BlockAnswer, frameTree, decodeHalves}
-use Rattle.scms.proofs.AnswerLaws.{symbols-word, total-place}
+use Rattle.scms.proofs.AnswerLaws.{symbols-word}
 use Rattle.scms.proofs.Decisions.{held-zero}
 use Rattle.scms.proofs.ByHalves.{same-answer, halves-unclipped}
 use Rattle.scms.proofs.TreeTotals.{llrAt}
@@ -152,7 +152,7 @@ module _ (code : Code) (mode : Mode) (frame : List ℕ) (g : Coefficients (code 
       let p = place-of n i l .0 in
       let t : llrAt (at (A .held) p) b + at (A .taken) p ≡ both i b
       = ap₂ (λ (v : List ℕ) (x : ℕ). getD v b 0 + x) (sym (leaves-number [] n i l (A .held)) ∙ same .same-held i l)
-      (sym (leaves-number 0 n i l (A .taken)) ∙ same .same-taken i l ∙ sym (total-place code mode frame i l)) in
+      (sym (leaves-number 0 n i l (A .taken)) ∙ ap (λ (x : List ℕ). getD x i 0) (same .same-totals)) in
       subst (λ (x : List ℕ). LeastTotal code frame (take i x ++ (b ∷ [])) (both i b)) (same .same-symbols)
       (subst (LeastTotal code frame (take i (leaves n (A .symbols)) ++ (b ∷ []))) t
       (least-lists code frame (A .symbols) i b l (llrAt (at (A .held) p) b + at (A .taken) p)

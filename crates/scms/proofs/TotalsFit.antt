@@ -20,7 +20,6 @@ use Rattle.scms.specs.Halves.{Vectors, checkNodes, variableNodes, takenN
 use Rattle.scms.proofs.NodeLaws.{check-zero, check-most, variable-zero, variable-most, rest-most, taken-most}
 use Rattle.scms.proofs.TreeDecoder.{decoded-symbols, word-transform}
 use Rattle.scms.proofs.TreeLists.{frame-at}
-use Rattle.scms.proofs.AnswerLaws.{total-place}
 use Rattle.scms.proofs.ByHalves.{same-answer}
 
 -- a vector that holds a 0 and no entry above a number
@@ -124,5 +123,5 @@ totals-fit most code mode frame g z mf i l =
     let p = place-of n i l .0 in
     let fits = block-fits p mode (coefsAt n 0 (2 ^ n / 2) (code .coefs)) (treeOf 0 n (code .map)) (frameTree n frame) most
     (coefs-nonzero n 0 (2 ^ n / 2) (code .coefs) g) (frame-bounded n most frame z mf) in
-    let e = total-place code mode frame i l ∙ sym (same-answer code mode frame .same-taken i l) ∙ leaves-number 0 n i l (decodeHalves code mode frame .taken) in
+    let e = ap (λ (x : List ℕ). getD x i 0) (sym (same-answer code mode frame .same-totals)) ∙ leaves-number 0 n i l (decodeHalves code mode frame .taken) in
     half-most n most _ (subst (λ (y : ℕ). y * 2 ≤ n * (most * 2 ^ n)) (sym e) fits)

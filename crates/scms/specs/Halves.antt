@@ -13,7 +13,7 @@ use Rattle.polar.specs.Halves.{Coefs, join, coefsAt}
 use Rattle.scms.specs.Mode.{Mode}
 use Rattle.scms.specs.Nodes.{checkNode, variableNode, lowered, clippedEntries}
 use Rattle.scms.specs.Decision.{decision}
-use Rattle.scms.specs.Decoder.{takenOff, held, symbols, report, count}
+use Rattle.scms.specs.Decoder.{held, symbols, report, totals, count}
 
 -- the vectors of 2^m places
 abbrev pub Vectors : ℕ → Type 0
@@ -70,17 +70,15 @@ decodeHalves code mode frame =
     decodeTree (code .n) mode (coefsAt (code .n) 0 (2 ^ code .n / 2) (code .coefs)) (treeOf 0 (code .n) (code .map))
     (frameTree (code .n) frame)
 
--- the two forms of the decoder say the same: symbols, vectors held, what was taken off, count; and the word by halves
--- is the decoded word, the transform (by layers) of the symbols answered
+-- the two forms of the decoder say the same: symbols, vectors held, totals, count; and the word by halves is the decoded
+-- word, the transform (by layers) of the symbols answered
 pub record SameAnswer (code : Code) (mode : Mode) (frame : List ℕ) : Type 0 where
   pub same-symbols : leaves (code .n) (decodeHalves code mode frame .symbols) ≡ symbols code mode frame
   pub same-held : (i : ℕ) → i < 2 ^ code .n
       → getD (leaves (code .n) (decodeHalves code mode frame .held)) i [] ≡ held code mode frame i
   pub same-report : joined (2 ^ code .n) (λ i. getD (leaves (code .n) (decodeHalves code mode frame .held)) i [])
       ≡ report code mode frame
-  pub same-taken : (i : ℕ) → i < 2 ^ code .n
-      → getD (leaves (code .n) (decodeHalves code mode frame .taken)) i 0
-      ≡ takenOff code mode frame (symbols code mode frame) i
+  pub same-totals : leaves (code .n) (decodeHalves code mode frame .taken) ≡ totals code mode frame
   pub same-count : decodeHalves code mode frame .count ≡ count code mode frame
   pub same-word : leaves (code .n) (decodeHalves code mode frame .word)
       ≡ transform (code .n) (code .coefs) (symbols code mode frame)
