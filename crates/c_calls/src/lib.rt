@@ -45,8 +45,8 @@ pub extern "C" fn zithejo_demap(
 }
 
 // Decodes a frame, as `decoder::decode`. Returns 0, with the symbols, the report, the totals and the count of clipped
-// entries in the places lent for them, and the work buffer all zeros; or the lowest refusal of 1, 2, 3, 4, 5, 6, 8 and 9
-// that fits, and leaves every buffer and the count as they came.
+// entries in the places lent for them, and the work buffer all zeros; or the lowest refusal of 1, 2, 3, 4, 5, 6, 8 and
+// 9 that fits, and leaves every buffer and the count as they came.
 #[no_mangle]
 pub extern "C" fn zithejo_decode(
     n: usize,

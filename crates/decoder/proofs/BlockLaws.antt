@@ -11,13 +11,13 @@ use Rattle.vector.specs.Vector.{vectorAt, AtMost}
 use Rattle.vector.specs.Frame.{largestLlr}
 use Rattle.gf64.specs.Field.{NonZero}
 use Rattle.polar_code.specs.Code.{kindOf, Coefficients}
-use Rattle.polar.specs.Tree.{map1, All, leaves, treeOf, here, at, number}
+use Rattle.polar.specs.Tree.{map1, leaves, treeOf, here, at, number}
 use Rattle.polar.specs.Halves.{coefsAt}
 use Rattle.polar.specs.Parts.{Block}
 use Rattle.polar.specs.Join.{Halves, Joined}
 use Rattle.polar.proofs.Numbers.{two-pow}
 use Rattle.polar.proofs.TreeLaws.{all-leaves}
-use Rattle.polar.proofs.OneToOne.{Symbol, transform-symbols, coef-nonzero}
+use Rattle.polar.proofs.OneToOne.{Symbol, coef-nonzero}
 use Rattle.polar.proofs.BlockLaws as polar
 use Rattle.vector.proofs.LentParts.{tail, put, tail-drop, front-long, lent-long, lent-tail, lent-both, lent-whole}
 use Rattle.polar.proofs.BlockLaws.{split}
@@ -28,7 +28,7 @@ use Rattle.scms.specs.Decision.{decision}
 use Rattle.scms.specs.Halves.{Vectors, decodeTree, frameTree}
 use Rattle.scms.proofs.NodeLaws.{check-zero, check-most, llrs-from, count-from, taken-from, variable-zero, variable-cap}
 use Rattle.scms.proofs.TreeLists.{frame-at}
-use Rattle.scms.proofs.TreeDecoder.{decoded-symbols, word-transform}
+use Rattle.scms.proofs.TreeDecoder.{decoded-word}
 use Rattle.phi_order.proofs.OrderLaws.{ordered-small}
 use Rattle.decoder.specs.Parts.{largestNumber, Kept, LayerGiven, KernelsGiven, CheckNodesWritten, FirstSymbols, OrderedGiven, SumFits, orderedAt, lessAt, lessTo, takenTo, VariableNodesWritten, OnePlace, PlaceDecoded, BlockVector, BlockGiven, vectorsFrom, modeAt, blockAnswer, TakenFits, BlockDecoded, WorkDecoded}
 use Rattle.decoder.specs.declared.vectors.BlockAt.{BlockAt}
@@ -46,8 +46,7 @@ word-symbols block cs map f =
     let mode = modeAt block in
     let k = coefsAt m (block .start) (block .places / 2) cs in
     let t = treeOf 0 m map in
-    all-leaves 0 Symbol m (decodeTree m mode k t f .word)
-    (subst (All m Symbol) (sym (word-transform m mode k t f)) (transform-symbols m k (decodeTree m mode k t f .symbols) (decoded-symbols m mode k t f)))
+    all-leaves 0 Symbol m (decodeTree m mode k t f .word) (decoded-word m mode k t f)
 
 -- ---- vectors
 

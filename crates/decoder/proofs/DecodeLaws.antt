@@ -5,7 +5,7 @@ use Prim.Native.Nat.{ℕ, _+_, _*_, _/_, _-_, _^_, _≤_, _<_}
 use native.Mathlib.Nat.{le-trans, le-of-eq, add-zero, zero-add, mul-le-mul}
 use native.Mathlib.Omega.{arith}
 use lib.ListN.{length, getD, take, replicate}
-use lib.Pow.{pow-mono}
+use lib.Pow.{pow-mono, pow-pos}
 use Rattle.refusal.proofs.Laws.{when-accepted, when-refused}
 use Rattle.vector.specs.Vector.{vectorAt}
 use Rattle.vector.specs.Frame.{largestLlr}
@@ -18,7 +18,7 @@ use Rattle.polar.proofs.OneToOne.{coefs-nonzero}
 use Rattle.polar.proofs.EncodeLaws.{word-block}
 use Rattle.scms.specs.Decoder as scms
 use Rattle.scms.specs.Mode.{Mode, capOf, modeOf}
-use Rattle.scms.specs.Totals.{EachZero}
+use Rattle.scms.specs.Totals.{LeastTotal, EachZero, Unclipped}
 use Rattle.scms.specs.Claims.{LeastTotals}
 use Rattle.scms.specs.Halves.{Vectors, frameTree, decodeTree, decodeHalves}
 use Rattle.scms.proofs.TreeLists.{frame-at}
@@ -142,11 +142,18 @@ module _ (code : Code) (settings : Settings) (frame : List ℕ) (lent : Lent) wh
   -- ---- the promise
 
   -- with Qm = 13 nothing is clipped
+  unclipped-13 : Decodable code settings frame lent → Unclipped code (modeOf 13) frame
+  unclipped-13 t = never-clipped code frame (t .is-code .layers .most) (t .is-code .nonzero) (each-zero t) (each-31 t)
+
+  -- so the count is 0 then
   never-counted : Decodable code settings frame lent → settings .qm ≡ 13 → scms.count code mode frame ≡ 0
-  never-counted t q =
-      ap (λ (x : ℕ). scms.count code (modeOf x) frame) q
-      ∙ count-zero code (modeOf 13) frame .unclipped-zero
-      (never-clipped code frame (t .is-code .layers .most) (t .is-code .nonzero) (each-zero t) (each-31 t))
+  never-counted t q = ap (λ (x : ℕ). scms.count code (modeOf x) frame) q ∙ count-zero code (modeOf 13) frame .unclipped-zero (unclipped-13 t)
+
+  -- the least total of all words, which no precision changes, is number 0 of the totals with Qm = 13
+  none-less : Decodable code settings frame lent → LeastTotal code frame [] 0
+  none-less t =
+      subst (LeastTotal code frame []) (first-total code (modeOf 13) frame)
+      (least-totals code (modeOf 13) frame (t .is-code .nonzero) (each-zero t) (unclipped-13 t) 0 (pow-pos n) .of-row)
 
   -- the promise from its equations: what else it says holds of the definitions
   promise : {after : Lent} {r : enum.Answer} → returned r ≡ decodeAnswer code settings frame lent
@@ -180,6 +187,7 @@ module _ (code : Code) (settings : Settings) (frame : List ℕ) (lent : Lent) wh
         count-zero = λ e. count-zero code mode frame;
         none-clipped = λ e. never-counted (t e);
         first-total = λ e. number-so e 0 ∙ first-total code mode frame;
+        least-of-all = λ e. none-less (t e);
         totals-fit = λ e i l. le-trans (le-of-eq (number-so e i))
             (totals-fit (2 ^ settings .qc - 1) code mode frame (t e .is-code .nonzero) (zeros e) (each-qc (t e)) i l);
         least-totals = λ e u i l.

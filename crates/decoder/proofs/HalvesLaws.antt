@@ -128,7 +128,7 @@ halfAt block layers s at taken = record { layers = layers; start = s; at = at; p
 abbrev pub withLayers : BlockAt → ℕ → BlockAt
 withLayers block layers = halfAt block layers (block .start) (block .at) (block .taken)
 
--- what is taken off along the lines of a half: by the layers before, and by the nodes that join it, of which the latter is part of the half's own
+-- to add two numbers at every place is to add the second and then the first
 more-off : (p before more : ℕ) (b : Tree ℕ p) → map1 p (λ x. x + (before + more)) b ≡ map1 p (λ x. x + before) (map1 p (λ x. x + more) b)
 more-off p before more b = ext-at p (map1 p (λ x. x + (before + more)) b) (map1 p (λ x. x + before) (map1 p (λ x. x + more) b)) (λ q.
     let x = at b q in

@@ -10,7 +10,7 @@ use Rattle.vector.specs.Vector.{vectorAt}
 use Rattle.polar_code.specs.Code.{Code}
 use Rattle.scms.specs.Mode.{Mode, modeOf}
 use Rattle.scms.specs.Decoder as scms
-use Rattle.scms.specs.Totals.{FrozenFirst, Unclipped}
+use Rattle.scms.specs.Totals.{LeastTotal, FrozenFirst, Unclipped}
 use Rattle.scms.specs.Claims.{CountZero, LeastTotals, Decided, BestWord}
 use Rattle.decoder.specs.declared.decoder.Answer.{Answer}
 use Rattle.decoder.specs.declared.decoder.Answer.the-variants.{Count, Refused}
@@ -62,11 +62,11 @@ module _ (code : Code) (settings : Settings) (frame : List ℕ) (lent : Lent) wh
   -- The promise, for every input. First the answer r and the lent buffers at exit; the frame, the map and the
   -- coefficients are lent to be read only. Then, where the call is accepted, the same without the cases: the count
   -- answered, the symbols, what the report holds for each place, and the totals. Then what holds of these: the count is
-  -- 0 exactly where the frame is unclipped, and always with Qm = 13; clipped or not, the number of place 0 in the totals
-  -- is 0, none exceeds n × (2^Qc − 1) × 2^(n−1), which is at most 31,744, and each decision; in an unclipped frame a
-  -- place's number in the totals is the least total of the row decided before it, and with what is held for a value that
-  -- of the row followed by the value; and in an unclipped frame, where all frozen places come first, no word of the code
-  -- has a smaller total than the word decided
+  -- 0 exactly where the frame is unclipped, and always with Qm = 13; clipped or not, the number of place 0 in the
+  -- totals is 0, which is the least total of all words, none exceeds n × (2^Qc − 1) × 2^(n−1), which is at most 31,744,
+  -- and each decision; in an unclipped frame a place's number in the totals is the least total of the row decided
+  -- before it, and with what is held for a value that of the row followed by the value; and in an unclipped frame,
+  -- where all frozen places come first, no word of the code has a smaller total than the word decided
   pub record Decoded (after : Lent) (r : Answer) : Type 0 where
     pub answer : returned r ≡ decodeAnswer
     pub symbols-are : after .symbols ≡ decodeSymbols
@@ -80,6 +80,7 @@ module _ (code : Code) (settings : Settings) (frame : List ℕ) (lent : Lent) wh
     pub count-zero : Accepted → CountZero code mode frame
     pub none-clipped : Accepted → settings .qm ≡ 13 → scms.count code mode frame ≡ 0
     pub first-total : Accepted → getD (after .totals) 0 0 ≡ 0
+    pub least-of-all : Accepted → LeastTotal code frame [] 0
     pub totals-fit : Accepted → (i : ℕ) → i < 2 ^ code .n
         → getD (after .totals) i 0 ≤ code .n * ((2 ^ settings .qc - 1) * (2 ^ code .n / 2))
     pub least-totals : Accepted → Unclipped code mode frame → (i : ℕ) → i < 2 ^ code .n

@@ -90,8 +90,8 @@ abbrev pub workedCode : (coef : ℕ) → Code
 workedCode coef = codeOf 1 (1 ∷ 0 ∷ []) (coef ∷ [])
 
 -- N = 2, coefficient 1, place 0 frozen; first vector 0 at 5, else 1; second 0 at 4, else 1 (the caps of Qm = 1 and of
--- Qm = 13). Place 0 is 0 with penalty 1 held; place 1 has 0 at 4 and 5, 1 elsewhere, and is 4. No word with 0 in place 0
--- has a total below 1
+-- Qm = 13). Place 0 is 0 with penalty 1 held; place 1 has 0 at 4 and 5, 1 elsewhere, and is 4. No word with 0 in place
+-- 0 has a total below 1
 abbrev pub decoderRows : Mode → List Row
 decoderRows mode =
     let frame = zeroAt 5 1 ++ zeroAt 4 1 in

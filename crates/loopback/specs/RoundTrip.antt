@@ -68,8 +68,9 @@ module _ (s : Transmission) (r : Reception) (lent : TripLent) where
 
   -- The promise, for every input. First the answer and the lent buffers at exit; the map, the coefficients and the
   -- message are lent to be read only. Then, where the call is accepted: answer, symbols, report, totals and work buffer
-  -- are those of one call of `decode` on the frame at exit, with all that it promises of them; and, where the premise of
-  -- the noiseless statement holds, the symbols are the word before the transform and the decoded message is the message
+  -- are those of one call of `decode` on the frame at exit, with all that it promises of them; and, where the premise
+  -- of the noiseless statement holds, the symbols are the word before the transform and the decoded message is the
+  -- message
   pub record RoundTrip (after : TripLent) (a : Answer) : Type 0 where
     pub answer : returned a ≡ tripAnswer
     pub samples-are : after .samples ≡ tripSamples

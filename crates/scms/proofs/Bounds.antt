@@ -21,6 +21,10 @@ use Rattle.scms.specs.Claims.{Fits}
 use Rattle.scms.proofs.NodeLaws.{check-zero, variable-zero, check-most, rest-most, variable-cap, variable-most}
 use Rattle.scms.proofs.VectorLaws.{coefficient-nonzero, theta-from, phi-from, atPlace, each-layer, u-lt}
 
+-- a number times 2^(d + 1)
+pub twice : (most d : ℕ) → most * 2 ^ suc d ≡ most * 2 ^ d + most * 2 ^ d
+twice most d = ap (λ (x : ℕ). most * x) (two-pow d) ∙ mul-add most (2 ^ d) (2 ^ d)
+
 module _ (code : Code) (mode : Mode) (frame s : List ℕ) (g : Coefficients (code .coefs))
     (z : EachZero (code .n) frame) where
   -- the number of layers
@@ -77,9 +81,8 @@ module _ (code : Code) (mode : Mode) (frame s : List ℕ) (g : Coefficients (cod
         → AtMost (most * 2 ^ d) (here d (theta n (suc d) t)) → AtMost (most * 2 ^ d) (here d (phi n (suc d) t))
         → AtMost (most * 2 ^ suc d) (lowered (coefficient n (suc d) t cs) (thetaSymbol n (suc d) t cs s) (here d (theta n (suc d) t)) (here d (phi n (suc d) t)) .rest)
     rest-bound d m e t lt p q =
-        let twice : most * 2 ^ suc d ≡ most * 2 ^ d + most * 2 ^ d = ap (λ (x : ℕ). most * x) (two-pow d) ∙ mul-add most (2 ^ d) (2 ^ d) in
         subst (λ (x : ℕ). AtMost x (lowered (coefficient n (suc d) t cs) (thetaSymbol n (suc d) t cs s) (here d (theta n (suc d) t)) (here d (phi n (suc d) t)) .rest))
-        (sym twice) (rest-most _ _ _ _ _ (u-lt code mode frame s d m e w t lt) p q)
+        (sym (twice most d)) (rest-most _ _ _ _ _ (u-lt code mode frame s d m e w t lt) p q)
 
     -- the entries at most double with each layer
     vector-most : (d : ℕ) → d ≤ n → (j : ℕ) → j < 2 ^ n → AtMost (most * 2 ^ d) (here d j)

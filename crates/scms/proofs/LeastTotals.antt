@@ -18,7 +18,7 @@ use Rattle.polar.proofs.OneToOne.{coefs-nonzero}
 use Rattle.scms.specs.Mode.{Mode}
 use Rattle.scms.specs.Decoder.{held, symbols, totals}
 use Rattle.scms.specs.Totals.{Least, Begins, LeastTotal, EachZero, Unclipped}
-use Rattle.scms.specs.Claims.{LeastTotals}
+use Rattle.scms.specs.Claims.{heldAndTotal, LeastTotals}
 use Rattle.scms.specs.Halves.{BlockAnswer, frameTree, decodeHalves}
 use Rattle.scms.proofs.AnswerLaws.{symbols-word}
 use Rattle.scms.proofs.Decisions.{held-zero}
@@ -142,7 +142,7 @@ module _ (code : Code) (mode : Mode) (frame : List ℕ) (g : Coefficients (code 
 
   -- what is held for a value at place i, and the place's number in the totals
   abbrev both : (i b : ℕ) → ℕ
-  both i b = getD (held code mode frame i) b 0 + getD (totals code mode frame) i 0
+  both i b = heldAndTotal (getD (totals code mode frame) i 0) (held code mode frame i) b
 
   -- the least total of a row followed by a value, by the form by halves
   row-least : (i b : ℕ) (l : i < 2 ^ n) → b < 64 → LeastTotal code frame (take i (symbols code mode frame) ++ (b ∷ [])) (both i b)

@@ -1,24 +1,25 @@
 -- The totals are bounded, clipped or not: by halves, and so in document 01's indices.
 use mathlib.Core.Path.{_≡_, sym, ap, _∙_, subst}
 use mathlib.Core.List.{List}
-use Prim.Native.Nat.{ℕ, zero, suc, _+_, _*_, _/_, _^_, _≤_, _<_}
+use Prim.Native.Nat.{ℕ, zero, suc, _+_, _*_, _/_, _^_, _≤_}
 use native.Mathlib.Nat.{mul-add, add-mul, suc-mul}
 use native.Mathlib.Omega.{arith}
 use lib.ListN.{getD}
 use Rattle.vector.specs.Vector.{HasZero, AtMost}
 use Rattle.gf64.specs.Field.{NonZero}
-use Rattle.polar_code.specs.Code.{Code, Coefficients}
-use Rattle.polar.specs.Tree.{Tree, map1, map3, map4, treeSum, treeOf, All, Place, here, first, second, at, number}
+use Rattle.polar_code.specs.Code.{Code}
+use Rattle.polar.specs.Tree.{Tree, map3, map4, treeSum, treeOf, All, Place, here, first, second, at, number}
 use Rattle.polar.specs.Halves.{Coefs, coefsAt}
 use Rattle.polar.proofs.Numbers.{two-pow}
 use Rattle.polar.proofs.TreeLaws.{number-lt, place-of, map1-at, all-by, leaves-number}
-use Rattle.polar.proofs.OneToOne.{Symbol, AllNonZero, transform-symbols, coefs-nonzero}
+use Rattle.polar.proofs.OneToOne.{Symbol, AllNonZero, coefs-nonzero}
 use Rattle.scms.specs.Mode.{Mode}
 use Rattle.scms.specs.Totals.{EachZero, EachAtMost}
 use Rattle.scms.specs.Claims.{TotalsFit}
 use Rattle.scms.specs.Halves.{Vectors, checkNodes, variableNodes, takenNodes, decodeTree, frameTree, decodeHalves}
 use Rattle.scms.proofs.NodeLaws.{check-zero, check-most, variable-zero, variable-most, rest-most, taken-most}
-use Rattle.scms.proofs.TreeDecoder.{decoded-symbols, word-transform}
+use Rattle.scms.proofs.Bounds.{twice}
+use Rattle.scms.proofs.TreeDecoder.{decoded-word}
 use Rattle.scms.proofs.TreeLists.{frame-at}
 use Rattle.scms.proofs.ByHalves.{same-answer}
 
@@ -49,11 +50,7 @@ variable-bounded (suc m) most cap h f g u lu bf bg = (
   variable-bounded m most cap (h .1) (f .1) (g .1) (u .1) (lu .1) (bf .1) (bg .1),
 )
 
--- a number times 2^(m + 1)
-twice : (most m : ℕ) → most * 2 ^ suc m ≡ most * 2 ^ m + most * 2 ^ m
-twice most m = ap (λ (x : ℕ). most * x) (two-pow m) ∙ mul-add most (2 ^ m) (2 ^ m)
-
--- and what each takes off is at most that number
+-- and what each takes off is at most the number
 nodes-taken : (m most : ℕ) (h : Tree ℕ m) (f g : Vectors m) (u : Tree ℕ m) → All m NonZero h → All m Symbol u → All m (Bounded most) f
     → All m (Bounded most) g → takenNodes m h f g u ≤ most * 2 ^ m
 unfolding takenNodes treeSum map4 All
@@ -88,8 +85,7 @@ block-fits (first {m} p) mode k map f most nz bf =
 block-fits (second {m} p) mode k map f most nz bf =
     let c = checkNodes m (k .0) (f .0) (f .1) in
     let a = decodeTree m mode (k .1) (map .0) c in
-    let w : All m Symbol (a .word) = subst (All m Symbol) (sym (word-transform m mode (k .1) (map .0) c))
-    (transform-symbols m (k .1) (a .symbols) (decoded-symbols m mode (k .1) (map .0) c)) in
+    let w = decoded-word m mode (k .1) (map .0) c in
     let v = variableNodes m (mode .cap) (k .0) (f .0) (f .1) (a .word) in
     let b = decodeTree m mode (k .2) (map .1) v in
     let t = takenNodes m (k .0) (f .0) (f .1) (a .word) in

@@ -1,10 +1,10 @@
 -- The decoder by halves: what it decides, and its word.
-use mathlib.Core.Path.{_≡_, refl, ap₂}
+use mathlib.Core.Path.{_≡_, refl, sym, ap₂, subst}
 use Prim.Native.Nat.{ℕ, zero, suc}
 use Rattle.polar_code.specs.Code.{kindOf}
 use Rattle.polar.specs.Tree.{Tree, All, Place, here, first, second, at}
 use Rattle.polar.specs.Halves.{Coefs, join, transformTree}
-use Rattle.polar.proofs.OneToOne.{Symbol}
+use Rattle.polar.proofs.OneToOne.{Symbol, transform-symbols}
 use Rattle.scms.specs.Mode.{Mode}
 use Rattle.scms.specs.Decision.{decision}
 use Rattle.scms.specs.Halves.{Vectors, checkNodes, variableNodes, decodeTree}
@@ -39,3 +39,8 @@ word-transform (suc m) mode k map f =
     let c = checkNodes m (k .0) (f .0) (f .1) in
     ap₂ (join m (k .0)) (word-transform m mode (k .1) (map .0) c)
     (word-transform m mode (k .2) (map .1) (variableNodes m (mode .cap) (k .0) (f .0) (f .1) (decodeTree m mode (k .1) (map .0) c .word)))
+
+-- so it has symbols only
+pub decoded-word : (m : ℕ) (mode : Mode) (k : Coefs m) (map : Tree ℕ m) (f : Vectors m) → All m Symbol (decodeTree m mode k map f .word)
+decoded-word m mode k map f =
+    subst (All m Symbol) (sym (word-transform m mode k map f)) (transform-symbols m k (decodeTree m mode k map f .symbols) (decoded-symbols m mode k map f))

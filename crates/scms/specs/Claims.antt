@@ -73,19 +73,18 @@ TotalsFit most code mode frame =
 abbrev pub FirstTotal : Code → Mode → (frame : List ℕ) → Type 0
 FirstTotal code mode frame = getD (totals code mode frame) 0 0 ≡ 0
 
--- What is said of one place in an unclipped frame: of the row of symbols decided before it, of its number in the
--- totals, and of the 64 penalties held for it
-module _ (code : Code) (frame row : List ℕ) (number : ℕ) (llrs : List ℕ) where
-  -- what is held for value b and the place's number
-  abbrev pub heldAndTotal : (b : ℕ) → ℕ
-  heldAndTotal b = getD llrs b 0 + number
+-- what is held for value b at a place, and the place's number in the totals
+abbrev pub heldAndTotal : (number : ℕ) (llrs : List ℕ) (b : ℕ) → ℕ
+heldAndTotal number llrs b = getD llrs b 0 + number
 
-  -- the number is the least total of the row, what is held for a value and the number the least total of the row
-  -- followed by that value, and so what is held that least total less the least of the 64
-  pub record LeastTotals : Type 0 where
-    pub of-row : LeastTotal code frame row number
-    pub with-value : (b : ℕ) → b < 64 → LeastTotal code frame (row ++ (b ∷ [])) (heldAndTotal b)
-    pub less-least : (b : ℕ) → b < 64 → getD llrs b 0 ≡ heldAndTotal b - leastTo 63 heldAndTotal
+-- Of one place in an unclipped frame, of the row of symbols decided before it, its number in the totals and the 64
+-- penalties held for it: the number is the least total of the row; what is held for a value and the number are the
+-- least total of the row followed by that value; and so what is held is that least total less the least of the 64
+pub record LeastTotals (code : Code) (frame row : List ℕ) (number : ℕ) (llrs : List ℕ) : Type 0 where
+  pub of-row : LeastTotal code frame row number
+  pub with-value : (b : ℕ) → b < 64 → LeastTotal code frame (row ++ (b ∷ [])) (heldAndTotal number llrs b)
+  pub less-least : (b : ℕ) → b < 64
+      → getD llrs b 0 ≡ heldAndTotal number llrs b - leastTo 63 (heldAndTotal number llrs)
 
 -- the decision at place i, clipped or not: a frozen place gets what it always holds, a message place the smallest value
 -- whose held penalty is 0

@@ -70,8 +70,8 @@ decodeHalves code mode frame =
     decodeTree (code .n) mode (coefsAt (code .n) 0 (2 ^ code .n / 2) (code .coefs)) (treeOf 0 (code .n) (code .map))
     (frameTree (code .n) frame)
 
--- the two forms of the decoder say the same: symbols, vectors held, totals, count; and the word by halves is the decoded
--- word, the transform (by layers) of the symbols answered
+-- the two forms of the decoder say the same: symbols, vectors held, totals, count; and the word by halves is the
+-- decoded word, the transform (by layers) of the symbols answered
 pub record SameAnswer (code : Code) (mode : Mode) (frame : List ℕ) : Type 0 where
   pub same-symbols : leaves (code .n) (decodeHalves code mode frame .symbols) ≡ symbols code mode frame
   pub same-held : (i : ℕ) → i < 2 ^ code .n

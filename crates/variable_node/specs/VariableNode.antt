@@ -12,8 +12,8 @@ module _ (cap u : ℕ) (theta ordered : List ℕ) where
   abbrev less : Lowered
   less = lessFrom (lowSix u) (lowBits theta) (lowBits ordered)
 
-  -- what a variable node gives: its penalties, its count of clipped entries, of which there are at most 64, and what was
-  -- taken off
+  -- what a variable node gives: its penalties, its count of clipped entries, of which there are at most 64, and what
+  -- was taken off
   pub record IsVariableNode (node : VariableNode) : Type 0 where
     pub llrs-are : node .llrs ≡ clipped cap (less .rest)
     pub count-is : node .count ≡ exceeding cap (less .rest)
