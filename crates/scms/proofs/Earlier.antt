@@ -220,6 +220,6 @@ unfolding heldAt takenOff window
 only-earlier code mode frame s r ls lr = record {
   u-earlier = u-depends (code .n) (code .coefs) s r ls lr;
   held-earlier = λ i l a. vectors-earlier code mode frame s r ls lr (code .n) 0 i i (add-zero (code .n)) (omega arith) l a;
-  taken-earlier = λ i l a. sum-ext (code .n) (λ d. takenIn code mode frame s (suc d) i) (λ d. takenIn code mode frame r (suc d) i) (λ d k.
+  taken-earlier = λ i l a. sum-ext _ _ _ (λ d k.
       line-same code mode frame s r ls lr d (code .n - suc d) i (omega arith) l a);
 }
