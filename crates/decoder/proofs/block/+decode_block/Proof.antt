@@ -3,6 +3,7 @@
 use mathlib.Core.Path.{_≡_, sym, _∙_}
 use mathlib.Core.List.{List, _++_}
 use Prim.Native.Nat.{ℕ, _+_, _-_, _*_, _/_, _≤_, _<_}
+use native.Mathlib.Nat.{le-refl}
 use native.Mathlib.Omega.{arith}
 use borrow.Author.Needs.{needs}
 use borrow.Fn.Kinds.{In}
@@ -291,19 +292,19 @@ pub +decode-block-spec : {M : Type 1} → statement M
     (λ c. let z = sizes t (unchecked t c) in omega arith)
     -- the check nodes
     (λ c. let z = sizes t (unchecked t (c .before)) in omega arith)
-    (λ c. let z = sizes t (unchecked t (c .before)) in search needs)
-    (λ c. let z = sizes t (unchecked t (c .before)) in search needs)
-    (λ c. search needs)
+    (λ c. sizes t (unchecked t (c .before)) .in-report)
+    (λ c. sizes t (unchecked t (c .before)) .in-report)
+    (λ c. le-refl _)
     (λ c κs. let e = unchecked t (c .before .before) in (laws.at-kernels (layer t e) (entry t e .pre .1), laws.at-room (layer t e) (entry t e .pre .1)))
     -- the first half
     (λ c. let e = to-layered t (lent-first t c) in sym (length-take-le (half t e) (entry t e .args .map .now) (sizes t e .in-map)))
-    (λ c. let z = sizes t (to-layered t (lent-first t (c .before))) in search needs)
+    (λ c. sizes t (to-layered t (lent-first t (c .before))) .in-word)
     (λ c. let e = to-layered t (lent-first t (c .before .before)) in sym (length-take-le (half t e) (entry t e .args .word .now) (sizes t e .in-word)))
-    (λ c. let z = sizes t (to-layered t (lent-first t (c .before .before))) in search needs)
+    (λ c. sizes t (to-layered t (lent-first t (c .before .before))) .in-symbols)
     (λ c. let e = to-layered t (lent-first t (c .before .before .before)) in sym (length-take-le (half t e) (entry t e .args .symbols .now) (sizes t e .in-symbols)))
-    (λ c. let z = sizes t (to-layered t (lent-first t (c .before .before .before))) in search needs)
+    (λ c. noted-room t (lent-first t (c .before .before .before)))
     (λ c. let k = lent-first t (c .before .before .before .before) in sym (length-take-le (cut t (to-layered t k)) (noted t k) (noted-room t k)))
-    (λ c. let z = sizes t (to-layered t (lent-first t (c .before .before .before .before))) in search needs)
+    (λ c. sizes t (to-layered t (lent-first t (c .before .before .before .before))) .in-totals)
     (λ c. let e = to-layered t (lent-first t (c .before .before .before .before .before)) in sym (length-take-le (half t e) (entry t e .args .totals .now) (sizes t e .in-totals)))
     (λ c κs.
     let k = lent-first t (c .before .before .before .before .before) in
@@ -313,7 +314,7 @@ pub +decode-block-spec : {M : Type 1} → statement M
     (λ c. let z = sizes t (layered t (lent-variable t c)) in omega arith)
     (λ c. report-part t (lent-variable t c))
     (λ c. report-part t (lent-variable t (c .before)))
-    (λ c. search needs)
+    (λ c. le-refl _)
     (λ c κs.
     let d = lent-variable t (c .before .before) in
     let e = layered t d in
@@ -326,23 +327,23 @@ pub +decode-block-spec : {M : Type 1} → statement M
     let d = to-first t v in
     let fits = laws.at-taken (layer t (layered t d)) (again t (to-checked t d)) (first-half t d) (variable-long t v) (v .variable-nodes .ensures) in
     omega arith)
-    (λ c. search needs)
-    (λ c. search needs)
-    (λ c. search needs)
+    (λ c. sizes t (layered t (to-first t (begun t (c .before .before)))) .in-map)
+    (λ c. sizes t (layered t (to-first t (begun t (c .before .before)))) .in-map)
+    (λ c. le-refl _)
     (λ c. word-part t (to-first t (lent-second t c)))
     (λ c. word-part t (to-first t (lent-second t c)))
-    (λ c. search needs)
+    (λ c. le-refl _)
     (λ c. symbols-part t (to-first t (lent-second t (c .before))))
     (λ c. symbols-part t (to-first t (lent-second t (c .before))))
-    (λ c. search needs)
+    (λ c. le-refl _)
     (λ c. let z = sizes t (layered t (to-first t (lent-second t (c .before .before)))) in omega arith)
     (λ c. report-part t (to-first t (lent-second t (c .before .before))))
     (λ c. report-part t (to-first t (lent-second t (c .before .before))))
-    (λ c. search needs)
+    (λ c. le-refl _)
     (λ c. let z = sizes t (layered t (to-first t (lent-second t (c .before .before .before)))) in omega arith)
     (λ c. totals-part t (to-first t (lent-second t (c .before .before .before))))
     (λ c. totals-part t (to-first t (lent-second t (c .before .before .before))))
-    (λ c. search needs)
+    (λ c. le-refl _)
     (λ c κs.
     let v = lent-second t (c .before .before .before .before) in
     let d = to-first t v in
