@@ -5,6 +5,9 @@ use crate::layers::variable_nodes;
 use crate::vectors::BlockAt;
 use crate::vectors::load_vector;
 use decision::decide;
+use gf64::Products;
+ghost use mathlib.Core.Path.{_≡_};
+ghost use Rattle.gf64.specs.ProductTable.{productTable};
 ghost use Rattle.decoder.specs.Parts.{OnePlace, PlaceDecoded, BlockGiven, WorkDecoded};
 
 // One place, whose vector is number `at`: its symbol is decided from its vector, and the vector is reported, with what
@@ -34,10 +37,11 @@ fn decode_place(
 // A block: writes its symbols, their transform (the word), its report and its totals, and returns the count of clipped
 // entries of its variable nodes. What these take off goes down to the places of its second half. While its first half
 // is decoded the second half of its report holds phi's vectors in the order of c, from the check nodes to the variable
-// nodes.
+// nodes. The table that is lent is that of products.
 pub(crate) fn decode_block(
     block: BlockAt,
     coefs: &[u8],
+    table: &Products,
     map: &[u8],
     frame: &[u16],
     work: &mut [u16],
@@ -47,7 +51,7 @@ pub(crate) fn decode_block(
     totals: &mut [u16],
 ) -> u32
     requires { ⌜ BlockGiven block (now coefs) (now map) (now frame) (now work) (now word) (now symbols) (now report)
-        (now totals) ⌝ }
+        (now totals) × (now table ≡ productTable) ⌝ }
     ensures { λ r. ⌜ WorkDecoded block (now (coefs .entry)) (now (map .entry)) (now (frame .entry)) (now (work .entry))
         (now (work .exit)) (now (word .exit)) (now (symbols .exit)) (now (report .exit)) (now (totals .exit)) r ⌝ }
 {
@@ -68,10 +72,11 @@ pub(crate) fn decode_block(
         cap: block.cap,
         taken: block.taken,
     };
-    check_nodes(block, half, coefs, frame, work, &mut report[cut..]);
+    check_nodes(block, half, coefs, table, frame, work, &mut report[cut..]);
     let left = decode_block(
         first,
         coefs,
+        table,
         &map[..half],
         frame,
         work,
@@ -92,6 +97,7 @@ pub(crate) fn decode_block(
     let right = decode_block(
         second,
         coefs,
+        table,
         &map[half..],
         frame,
         work,
@@ -100,6 +106,6 @@ pub(crate) fn decode_block(
         &mut report[cut..],
         &mut totals[half..],
     );
-    polar::join_halves(half, block.start, coefs, word);
+    polar::join_halves(half, block.start, coefs, table, word);
     left + nodes.count + right
 }

@@ -65,6 +65,7 @@ pub fn decode(
     }
     // The transform of the symbols decided: room for the longest word.
     let mut word = [0u8; 256];
+    let table = gf64::products();
     let size = map.len();
     let whole = BlockAt {
         layers: n,
@@ -77,6 +78,7 @@ pub fn decode(
     let count = decode_block(
         whole,
         coefs,
+        &table,
         map,
         frame,
         work,

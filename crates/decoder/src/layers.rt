@@ -4,24 +4,28 @@
 use crate::vectors::BlockAt;
 use crate::vectors::load_vector;
 use crate::vectors::vector_of;
+use gf64::Products;
+ghost use mathlib.Core.Path.{_≡_};
 ghost use Prim.Native.Nat.{_*_, _≤_};
 ghost use mathlib.Core.List.{_++_};
 ghost use lib.ListN.{length};
+ghost use Rattle.gf64.specs.ProductTable.{productTable};
 ghost use Rattle.decoder.specs.Parts.{KernelsGiven, CheckNodesWritten};
 ghost use Rattle.decoder.specs.Parts.{LayerGiven, FirstSymbols, OrderedGiven, SumFits, VariableNodesWritten};
 
-// The check nodes of a block's kernels. Phi's vectors are put in the order of c for them, and kept so in
-// `room` for the variable nodes.
+// The check nodes of a block's kernels. Phi's vectors are put in the order of c for them, by the table of products that
+// is lent, and kept so in `room` for the variable nodes.
 pub(crate) fn check_nodes(
     block: BlockAt,
     half: usize,
     coefs: &[u8],
+    table: &Products,
     frame: &[u16],
     work: &mut [u16],
     room: &mut [u16],
 )
     requires { ⌜ KernelsGiven block half (now coefs) (now frame) (now work)
-        × (64 * half ≤ length (now room)) ⌝ }
+        × (64 * half ≤ length (now room)) × (now table ≡ productTable) ⌝ }
     ensures { λ _. ⌜ CheckNodesWritten block half (now (coefs .entry)) (now (frame .entry)) (now (work .entry))
         (now (work .exit)) (now (room .exit)) ⌝ }
 {
@@ -33,7 +37,7 @@ pub(crate) fn check_nodes(
     while t < half {
         let theta = load_vector(places, frame, work, at + t);
         let phi = load_vector(places, frame, work, at + (half + t));
-        let ordered = phi_order::ordered(&phi, coefs[start + t]);
+        let ordered = phi_order::ordered(&phi, table, coefs[start + t]);
         vector::store(&ordered, t, room);
         let r = check_node::check_node(&theta, &ordered);
         vector::store(&r, to + t, work);

@@ -1,3 +1,4 @@
 pub mod SumLaws
 pub mod Table
 pub mod ProductLaws
+pub mod ProductTableLaws

@@ -6,7 +6,6 @@ use native.Mathlib.Omega.{arith}
 use lib.Bits.{xor-mod}
 use lib.Dec.{lit<}
 use Rattle.gf64.specs.Field.{_⊕_, _⊙_, timesA, productBits, lowSix, power, inverse, NonZero}
-use Rattle.gf64.specs.Formula.{unreduced, reduced}
 use Rattle.gf64.proofs.SumLaws.{last-bit, sum-lt, sum-self, sum-zero, zero-sum, sum-cross}
 use Rattle.gf64.proofs.Table.{pair, inverse-at}
 
@@ -28,23 +27,32 @@ unfolding lowSix _⊕_
 low-sum x y = xor-mod x y 6
 
 -- the product, opened
-product-bits : (x y : ℕ) → x ⊙ y ≡ productBits 6 (lowSix x) (lowSix y)
+pub product-bits : (x y : ℕ) → x ⊙ y ≡ productBits 6 (lowSix x) (lowSix y)
 unfolding _⊙_
 product-bits x y = refl
 
--- only the six low bits of the factors count
-product-low : (x y : ℕ) → x ⊙ y ≡ lowSix x ⊙ lowSix y
-unfolding _⊙_
-product-low x y = ap₂ (productBits 6) (sym (low-symbol (lowSix x) (low-lt x))) (sym (low-symbol (lowSix y) (low-lt y)))
+-- the six low bits of a number have themselves for their six low bits
+low-same : (x : ℕ) → lowSix (lowSix x) ≡ lowSix x
+low-same x = low-symbol (lowSix x) (low-lt x)
 
--- the formula by which `product` computes gives the product (Table)
-pub product-formula : (x y : ℕ) → x ⊙ y ≡ reduced (unreduced (lowSix x) (lowSix y))
-product-formula x y = product-low x y ∙ pair (lowSix x) (lowSix y) (low-lt x) (low-lt y) .formula
+-- only the six low bits of the first factor count
+pub product-low-left : (x y : ℕ) → x ⊙ y ≡ lowSix x ⊙ y
+unfolding _⊙_
+product-low-left x y = ap (λ (k : ℕ). productBits 6 k (lowSix y)) (sym (low-same x))
+
+-- and of the second
+pub product-low-right : (x y : ℕ) → x ⊙ y ≡ x ⊙ lowSix y
+unfolding _⊙_
+product-low-right x y = ap (productBits 6 (lowSix x)) (sym (low-same y))
+
+-- so of both
+product-low : (x y : ℕ) → x ⊙ y ≡ lowSix x ⊙ lowSix y
+product-low x y = product-low-left x y ∙ product-low-right (lowSix x) y
 
 -- ---- one step of the product
 
 -- a bit times a symbol: 0 or the symbol
-bit-lt : (b y : ℕ) → b < 2 → y < 64 → b * y < 64
+pub bit-lt : (b y : ℕ) → b < 2 → y < 64 → b * y < 64
 bit-lt zero y hb hy = subst (λ (p : ℕ). p < 64) (sym (zero-mul y)) (lit< tt)
 bit-lt (suc zero) y hb hy = subst (λ (p : ℕ). p < 64) (sym (one-mul y)) hy
 bit-lt (suc (suc b)) y hb hy = absurd (omega arith)
@@ -75,6 +83,11 @@ bits-lt : (k x y : ℕ) → y < 64 → productBits k x y < 64
 unfolding productBits
 bits-lt zero x y h = lit< tt
 bits-lt (suc k) x y h = sum-lt (timesA (productBits k (x / 2) y)) (x % 2 * y) (a-lt (productBits k (x / 2) y) (bits-lt k (x / 2) y h)) (bit-lt (x % 2) y (last-bit x) h)
+
+-- a partial product with one bit more of the first factor, from what the bits above it gave
+pub bits-more : (k x y : ℕ) {above r : ℕ} → above ≡ productBits k (x / 2) y → r ≡ timesA above ⊕ (x % 2 * y) → r ≡ productBits (suc k) x y
+unfolding productBits
+bits-more k x y p e = e ∙ ap (λ (q : ℕ). timesA q ⊕ (x % 2 * y)) p
 
 -- ---- closed, commutative
 

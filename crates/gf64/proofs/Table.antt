@@ -6,11 +6,11 @@ use native.Mathlib.Nat.{le-of-suc-le-suc}
 use lib.Dec.{T, ltb, eqb, ltb→lt, eqb→eq}
 use Rattle.vector.proofs.All.{and-left, and-right, all, all-at}
 use Rattle.gf64.specs.Field.{_⊕_, _⊙_, timesA, productBits, lowSix, power, inverse}
-use Rattle.gf64.specs.Formula.{evens, odds, unreduced, reduced}
 
--- the test of one pair: the product is the same both ways round, and a times a symbol is a symbol and distributes over the sum; and the formula gives the product
+-- the test of one pair: the product is the same both ways round, and a times a symbol is a symbol and distributes over
+-- the sum
 pairOk : ℕ → ℕ → Bool
-pairOk x y = eqb (x ⊙ y) (y ⊙ x) && (ltb (timesA x) 64 && (eqb (timesA (x ⊕ y)) (timesA x ⊕ timesA y) && eqb (x ⊙ y) (reduced (unreduced x y))))
+pairOk x y = eqb (x ⊙ y) (y ⊙ x) && (ltb (timesA x) 64 && eqb (timesA (x ⊕ y)) (timesA x ⊕ timesA y))
 
 -- the test of the pairs of one x
 rowOk : ℕ → Bool
@@ -19,7 +19,7 @@ rowOk x = all (pairOk x) 64
 
 -- the one check over the table
 table : T (all rowOk 64)
-unfolding all rowOk _⊙_ productBits timesA lowSix _⊕_ evens odds unreduced reduced
+unfolding all rowOk _⊙_ productBits timesA lowSix _⊕_
 table = tt
 
 -- what the check says of one pair
@@ -27,7 +27,6 @@ pub record Pair (x y : ℕ) : Type 0 where
   pub swap : x ⊙ y ≡ y ⊙ x
   pub a-symbol : timesA x < 64
   pub a-sum : timesA (x ⊕ y) ≡ timesA x ⊕ timesA y
-  pub formula : x ⊙ y ≡ reduced (unreduced x y)
 
 -- the check at one pair
 pub pair : (x y : ℕ) → x < 64 → y < 64 → Pair x y
@@ -36,15 +35,12 @@ pair x y hx hy =
     let a = eqb (x ⊙ y) (y ⊙ x) in
     let b = ltb (timesA x) 64 in
     let c = eqb (timesA (x ⊕ y)) (timesA x ⊕ timesA y) in
-    let d = eqb (x ⊙ y) (reduced (unreduced x y)) in
     let t = all-at (pairOk x) 64 (all-at rowOk 64 table x hx) y hy in
-    let t1 = and-right a (b && (c && d)) t in
-    let t2 = and-right b (c && d) t1 in
+    let t1 = and-right a (b && c) t in
     record {
-      swap = eqb→eq (x ⊙ y) (y ⊙ x) (and-left a (b && (c && d)) t);
-      a-symbol = ltb→lt (timesA x) 64 (and-left b (c && d) t1);
-      a-sum = eqb→eq (timesA (x ⊕ y)) (timesA x ⊕ timesA y) (and-left c d t2);
-      formula = eqb→eq (x ⊙ y) (reduced (unreduced x y)) (and-right c d t2);
+      swap = eqb→eq (x ⊙ y) (y ⊙ x) (and-left a (b && c) t);
+      a-symbol = ltb→lt (timesA x) 64 (and-left b c t1);
+      a-sum = eqb→eq (timesA (x ⊕ y)) (timesA x ⊕ timesA y) (and-right b c t1);
     }
 
 -- each symbol but 0 has an inverse

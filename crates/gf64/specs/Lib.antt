@@ -1,2 +1,2 @@
 pub mod Field
-pub mod Formula
+pub mod ProductTable

@@ -1,12 +1,13 @@
 // Phi's vector in the order of c, in which both nodes of a kernel use it.
+use gf64::Products;
 use reorder::LLRS;
 ghost use mathlib.Core.Path.{_≡_};
 ghost use Prim.Native.Nat.{ℕ, _+_, _%_, _<_};
 ghost use lib.ListN.{getD};
 ghost use Rattle.vector.specs.Vector.{tabulate};
 ghost use Rattle.vector.specs.Frame.{largestLlr};
-ghost use Rattle.scms.specs.Nodes.{ordered};
 ghost use Rattle.reorder.specs.Order.{lowBits};
+ghost use Rattle.phi_order.specs.Order.{orderedBy};
 
 // The entries of a vector that 64 products name, of each the thirteen low bits; four at a time.
 fn gathered(v: &[u16; 64], products: &[u8; 64]) -> [u16; 64]
@@ -26,11 +27,11 @@ fn gathered(v: &[u16; 64], products: &[u8; 64]) -> [u16; 64]
     r
 }
 
-// Phi's vector in the order of c: its penalty at h times c, for each c. Of each penalty the thirteen low bits count.
-// Made once for each kernel, so that each product is worked out once.
-pub fn ordered(phi: &[u16; 64], h: u8) -> [u16; 64]
-    ensures { λ r. ⌜ r ≡ ordered h (lowBits (now (phi .entry))) ⌝ }
+// Phi's vector in the order of c: its penalty at h times c, for each c, the products of h being read from the table that
+// is lent. Of each penalty the thirteen low bits count. Made once for each kernel, so that each product is read once.
+pub fn ordered(phi: &[u16; 64], table: &Products, h: u8) -> [u16; 64]
+    ensures { λ r. ⌜ r ≡ orderedBy (now (table .entry)) h (lowBits (now (phi .entry))) ⌝ }
 {
-    let products = multiples::multiples(h);
+    let products = gf64::row_from(table, h);
     gathered(phi, &products)
 }

@@ -3,7 +3,7 @@ use mathlib.Core.Path.{_≡_, refl, sym, ap, ap₂, _∙_, subst}
 use mathlib.Core.List.{List, _++_}
 use Prim.Native.Nat.{ℕ, zero, suc, _+_, _-_, _/_, _^_, _≤_}
 use native.Mathlib.Omega.{arith}
-use lib.ListN.{length, getD, take, drop, length-drop, List·getD-append}
+use lib.ListN.{length, getD, take, drop, length-drop, take-append-drop, List·getD-append}
 use lib.Pow.{pow-mono}
 use lib.Seq.{length-take-le, getD-take, getD-drop, getD-append-add}
 use Rattle.vector.proofs.LentParts.{tail, put, lent-tail, lent-both, lent-whole}
@@ -226,3 +226,44 @@ one-place start stride cs word l = sym (leaves-treeOf 0 0 word l)
 pub at-leaf : {L half start stride : ℕ} {cs word : List ℕ} → L ≡ 0 → Block L half start stride cs word → word ≡ blockTransform L start stride cs word
 at-leaf {L} {half} {start} {stride} {cs} {word} e g =
     subst (λ (x : ℕ). word ≡ blockTransform x start stride cs word) (sym e) (one-place start stride cs word (g .long ∙ ap (λ (x : ℕ). 2 ^ x) e))
+
+-- ---- one layer: two places, whose halves stay
+
+module _ {L half start stride : ℕ} {cs word : List ℕ} (e : L ≡ 1) (g : Block L half start stride cs word) where
+  -- there is a layer
+  some : L ≡ 0 → ⊥
+  some z = absurd (omega arith)
+
+  -- each half has none
+  none : L - 1 ≡ 0
+  none = omega arith
+
+  -- the halves, as they were
+  abbrev front : List ℕ
+  front = take half word
+
+  abbrev back : List ℕ
+  back = drop half word
+
+  -- the second half where it is lent
+  back-lent : tail half (front ++ back) ≡ back
+  back-lent = lent-tail half word front refl (at-sizes some g .within)
+
+  back-long : length back ≡ length (tail half (front ++ back))
+  back-long = sym (ap length back-lent)
+
+  -- with both halves put back the word is what it was
+  whole : put half (front ++ back) back ≡ word
+  whole = lent-both half word front refl (at-sizes some g .within) back ∙ take-append-drop half word
+
+  -- what the kernel that joins them is given
+  pub at-pair-given : Halves half start cs word
+  at-pair-given = subst (λ (w : List ℕ). Halves half start cs w) whole (at-joins some g front refl back back-long)
+
+  -- what is left is the block, transformed
+  pub at-pair : (after : List ℕ) → length after ≡ length word → Joined half start cs word after → after ≡ blockTransform L start stride cs word
+  at-pair after l j =
+      at-transformed some g front refl back back-long after (l ∙ ap length (sym whole))
+      (at-leaf none (at-first some g))
+      (sym back-lent ∙ at-leaf none (at-second some g front refl))
+      (subst (λ (w : List ℕ). Joined half start cs w after) (sym whole) j)

@@ -35,6 +35,7 @@ pub fn encode(n: usize, map: &[u8], coefs: &[u8], message: &[u8], codeword: &mut
     }
     let half = map.len() / 2;
     place_message(map, message, codeword);
-    transform_block(n, half, 0, half, coefs, codeword);
+    let table = gf64::products();
+    transform_block(n, half, 0, half, coefs, &table, codeword);
     0
 }

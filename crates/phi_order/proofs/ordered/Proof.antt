@@ -5,26 +5,25 @@ use Prim.Native.Nat.{ℕ, _%_, _<_}
 use borrow.Author.Needs.{needs}
 use lib.ListN.{getD}
 use Rattle.vector.proofs.Laws.{tabulate-ext}
-use Rattle.gf64.proofs.ProductLaws.{product-lt}
-use Rattle.multiples.proofs.MultipleLaws.{multiples-at}
-use Rattle.scms.specs.Nodes.{ordered}
+use Rattle.gf64.proofs.ProductTableLaws.{symbols-lt}
 use Rattle.reorder.proofs.LowLaws.{low-at}
+use Rattle.phi_order.specs.Order.{orderedBy}
 use Rattle.phi_order.proofs.ordered.Statement.{statement}
 use Rattle.phi_order.proofs.ordered.Tie as tie
 
 gathered-requires : tie.Need-gathered-requires
 gathered-requires c κs =
-    λ k l. subst (λ (z : ℕ). z < 64) (sym (ap (λ (v : List ℕ). getD v k 0) (c .before .multiples .ensures) ∙ multiples-at _ k l)) (product-lt _ _)
+    λ k l. subst (λ (row : List ℕ). getD row k 0 < 64) (sym (c .before .row-from .ensures)) (symbols-lt _ _ k l)
 
 returns : tie.Need-returns
-unfolding ordered
+unfolding orderedBy
 returns c =
     let a = c .before .before .before .args in
     let phi = a .phi .now in
     c .gathered .ensures
     ∙ tabulate-ext 64 _ _ (λ k l.
-    ap (λ (z : ℕ). getD phi z 0 % 8192) (ap (λ (v : List ℕ). getD v k 0) (c .before .before .multiples .ensures) ∙ multiples-at (a .h) k l)
-    ∙ sym (low-at phi _ (product-lt _ _)))
+    ap (λ (row : List ℕ). getD phi (getD row k 0) 0 % 8192) (c .before .before .row-from .ensures)
+    ∙ sym (low-at phi _ (symbols-lt (a .table .now) (a .h) k l)))
 
 pub ordered-spec : {M : Type 1} → statement M
 ordered-spec =

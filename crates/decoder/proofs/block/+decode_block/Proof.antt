@@ -11,6 +11,8 @@ use borrow.Fn.PlainCycle.{Measures, is, falls, and}
 use lib.ListN.{length, drop}
 use lib.Seq.{length-take-le}
 use Rattle.vector.proofs.LentParts.{put, put-drop, put-long, lent-long, lent-whole}
+use Rattle.gf64.specs.ProductTable.{productTable}
+use Rattle.polar.proofs.JoinLaws.{joined-products}
 use Rattle.decoder.specs.Parts.{BlockGiven}
 use Rattle.decoder.proofs.HalvesLaws as halves
 use Rattle.decoder.proofs.BlockLaws as laws
@@ -25,14 +27,14 @@ use Rattle.decoder.proofs.block.+decode_block.{statement}
 use Rattle.decoder.proofs.block.+decode_block.Tie.{close}
 
 -- the number of layers falls
-abbrev μ-layers : Measures 8 block-kinds.ps ℕ
+abbrev μ-layers : Measures 9 block-kinds.ps ℕ
 μ-layers κs a = a .0 .layers
 
-abbrev given : ℕ → In 8 block-kinds.ps
-given t = and 8 block-kinds.ps (is 8 block-kinds.ps μ-layers t) block-reads.Pre
+abbrev given : ℕ → In 9 block-kinds.ps
+given t = and 9 block-kinds.ps (is 9 block-kinds.ps μ-layers t) block-reads.Pre
 
-abbrev below : ℕ → In 8 block-kinds.ps
-below t = and 8 block-kinds.ps (falls 8 block-kinds.ps _<_ μ-layers t) block-reads.Pre
+abbrev below : ℕ → In 9 block-kinds.ps
+below t = and 9 block-kinds.ps (falls 9 block-kinds.ps _<_ μ-layers t) block-reads.Pre
 
 -- what the functions that it calls ask and say
 abbrev calls : ℕ → lts.Claims
@@ -94,9 +96,6 @@ module _ (t : ℕ) where
   abbrev entry : Layered → Entry
   entry c = c .before .before .before .before .before .before .before .before .before .before
 
-  abbrev work-known : Layered → lts.After-slice-known (calls t) (given t) block-reads.Post
-  work-known c = c .before .before .before .before .before .before
-
   abbrev to-layered : Checked → Layered
   to-layered c = c .before .before .before .before .before .before .before
 
@@ -134,12 +133,19 @@ module _ (t : ℕ) where
   abbrev layered : FirstDecoded → Layered
   layered c = to-layered (to-checked c)
 
-  -- ---- what is known at the test for a layer: there is one, what the block is given, and the sizes
+  -- ---- what is known at the test for a layer: there is one, the block and the table that are given, and the sizes
   layer : (c : Layered) → entry c .args .block .layers ≡ 0 → ⊥
   layer c = c .if1 .left
 
-  sizes : (c : Layered) → laws.Sizes (layer c) (entry c .pre .1)
-  sizes c = laws.at-sizes (layer c) (entry c .pre .1)
+  block : (c : Layered) → let a = entry c .args in
+      BlockGiven (a .block) (a .coefs .now) (a .map .now) (a .frame .now) (a .work .now) (a .word .now) (a .symbols .now) (a .report .now) (a .totals .now)
+  block c = entry c .pre .1 .0
+
+  table : (c : Layered) → entry c .args .table .now ≡ productTable
+  table c = entry c .pre .1 .1
+
+  sizes : (c : Layered) → laws.Sizes (layer c) (block c)
+  sizes c = laws.at-sizes (layer c) (block c)
 
   -- the places of a half, and the number of entries of its report
   abbrev half : Layered → ℕ
@@ -150,26 +156,26 @@ module _ (t : ℕ) where
 
   -- ---- what the check nodes left: the work buffer, φ's vectors in the second half of the report, and the report with them
   abbrev checked-work : Checked → List ℕ
-  checked-work c = c .check-nodes .last .1 .1 .1 .1 .0
+  checked-work c = c .check-nodes .last .1 .1 .1 .1 .1 .0
 
   abbrev checked-room : Checked → List ℕ
-  checked-room c = c .check-nodes .last .1 .1 .1 .1 .1 .0
+  checked-room c = c .check-nodes .last .1 .1 .1 .1 .1 .1 .0
 
   abbrev noted : Checked → List ℕ
   noted c = put (cut (to-layered c)) (entry (to-layered c) .args .report .now) (checked-room c)
 
   checked-long : (c : Checked) → length (checked-work c) ≡ length (entry (to-layered c) .args .work .now)
-  checked-long c = c .check-nodes .kept .1 .1 .1 .1 .0
+  checked-long c = c .check-nodes .kept .1 .1 .1 .1 .1 .0
 
   -- the report has the length that it had
   noted-long : (c : Checked) → length (noted c) ≡ length (entry (to-layered c) .args .report .now)
   noted-long c =
-      put-long (cut (to-layered c)) (entry (to-layered c) .args .report .now) (checked-room c) (sizes (to-layered c) .in-report) (c .check-nodes .kept .1 .1 .1 .1 .1 .0)
+      put-long (cut (to-layered c)) (entry (to-layered c) .args .report .now) (checked-room c) (sizes (to-layered c) .in-report) (c .check-nodes .kept .1 .1 .1 .1 .1 .1 .0)
 
   -- so the block is given what it was
   again : (c : Checked) → let a = entry (to-layered c) .args in
       BlockGiven (a .block) (a .coefs .now) (a .map .now) (a .frame .now) (a .work .now) (a .word .now) (a .symbols .now) (noted c) (a .totals .now)
-  again c = laws.at-report (layer (to-layered c)) (entry (to-layered c) .pre .1) (noted-long c)
+  again c = laws.at-report (layer (to-layered c)) (block (to-layered c)) (noted-long c)
 
   -- and its report has room for that of a half
   noted-room : (c : Checked) → cut (to-layered c) ≤ length (noted c)
@@ -178,11 +184,11 @@ module _ (t : ℕ) where
   -- ---- what the first half left
   abbrev first-left : FirstDecoded → halves.Left
   first-left c = record {
-    work = c .decode-block .last .1 .1 .1 .1 .0;
-    word = c .decode-block .last .1 .1 .1 .1 .1 .0;
-    symbols = c .decode-block .last .1 .1 .1 .1 .1 .1 .0;
-    report = c .decode-block .last .1 .1 .1 .1 .1 .1 .1 .0;
-    totals = c .decode-block .last .1 .1 .1 .1 .1 .1 .1 .1 .0;
+    work = c .decode-block .last .1 .1 .1 .1 .1 .0;
+    word = c .decode-block .last .1 .1 .1 .1 .1 .1 .0;
+    symbols = c .decode-block .last .1 .1 .1 .1 .1 .1 .1 .0;
+    report = c .decode-block .last .1 .1 .1 .1 .1 .1 .1 .1 .0;
+    totals = c .decode-block .last .1 .1 .1 .1 .1 .1 .1 .1 .1 .0;
     count = c .decode-block .result;
   }
 
@@ -194,11 +200,11 @@ module _ (t : ℕ) where
         checked-long = checked-long k;
         checked = k .check-nodes .ensures;
         in-report = put-drop (cut (layered c)) (entry (layered c) .args .report .now) (checked-room k) (sizes (layered c) .in-report);
-        work-long = c .decode-block .kept .1 .1 .1 .1 .0;
-        word-long = c .decode-block .kept .1 .1 .1 .1 .1 .0;
-        symbols-long = c .decode-block .kept .1 .1 .1 .1 .1 .1 .0;
-        report-long = c .decode-block .kept .1 .1 .1 .1 .1 .1 .1 .0;
-        totals-long = c .decode-block .kept .1 .1 .1 .1 .1 .1 .1 .1 .0;
+        work-long = c .decode-block .kept .1 .1 .1 .1 .1 .0;
+        word-long = c .decode-block .kept .1 .1 .1 .1 .1 .1 .0;
+        symbols-long = c .decode-block .kept .1 .1 .1 .1 .1 .1 .1 .0;
+        report-long = c .decode-block .kept .1 .1 .1 .1 .1 .1 .1 .1 .0;
+        totals-long = c .decode-block .kept .1 .1 .1 .1 .1 .1 .1 .1 .1 .0;
         decoded = c .decode-block .ensures;
       }
 
@@ -234,17 +240,17 @@ module _ (t : ℕ) where
   -- ---- what the second half left
   abbrev second-left : SecondDecoded → halves.Left
   second-left c = record {
-    work = c .decode-block2 .last .1 .1 .1 .1 .0;
-    word = c .decode-block2 .last .1 .1 .1 .1 .1 .0;
-    symbols = c .decode-block2 .last .1 .1 .1 .1 .1 .1 .0;
-    report = c .decode-block2 .last .1 .1 .1 .1 .1 .1 .1 .0;
-    totals = c .decode-block2 .last .1 .1 .1 .1 .1 .1 .1 .1 .0;
+    work = c .decode-block2 .last .1 .1 .1 .1 .1 .0;
+    word = c .decode-block2 .last .1 .1 .1 .1 .1 .1 .0;
+    symbols = c .decode-block2 .last .1 .1 .1 .1 .1 .1 .1 .0;
+    report = c .decode-block2 .last .1 .1 .1 .1 .1 .1 .1 .1 .0;
+    totals = c .decode-block2 .last .1 .1 .1 .1 .1 .1 .1 .1 .1 .0;
     count = c .decode-block2 .result;
   }
 
   second-half : (c : SecondDecoded) → let v = to-variable c in let d = to-first v in
       laws.SecondHalf (layer (layered d)) (again (to-checked d)) (first-half d) (variable-long v) (v .variable-nodes .ensures) (second-left c)
-  second-half c = record { word-long = c .decode-block2 .kept .1 .1 .1 .1 .1 .0; decoded = c .decode-block2 .ensures }
+  second-half c = record { word-long = c .decode-block2 .kept .1 .1 .1 .1 .1 .1 .0; decoded = c .decode-block2 .ensures }
 
   -- the counts add up within 32 bits
   few-counted : (c : SecondDecoded) → first-left (to-first (to-variable c)) .count + to-variable c .variable-nodes .result .count + second-left c .count ≤ 300000
@@ -255,21 +261,21 @@ module _ (t : ℕ) where
 
   -- ---- the promise, when the words are joined
   done : (c : Joined) → let s = to-second c in let v = to-variable s in let d = to-first v in
-      laws.JoinedBy (layer (layered d)) (again (to-checked d)) (first-half d) (variable-long v) (v .variable-nodes .ensures) (second-half s) (c .join-halves .last .1 .1 .1 .0)
+      laws.JoinedBy (layer (layered d)) (again (to-checked d)) (first-half d) (variable-long v) (v .variable-nodes .ensures) (second-half s) (c .join-halves .last .1 .1 .1 .1 .0)
   done c =
       let s = to-second c in
       let v = to-variable s in
       let d = to-first v in
       let g = laws.at-joins (layer (layered d)) (again (to-checked d)) (first-half d) (variable-long v) (v .variable-nodes .ensures) (second-half s) in
       laws.at-done (layer (layered d)) (again (to-checked d)) (first-half d) (variable-long v) (v .variable-nodes .ensures) (second-half s)
-      (c .join-halves .kept .1 .1 .1 .0) (c .join-halves .ensures .joins g)
+      (c .join-halves .kept .1 .1 .1 .1 .0) (joined-products (table (layered d)) (c .join-halves .ensures .joins g))
 
 pub +decode-block-spec : {M : Type 1} → statement M
 +decode-block-spec =
     close μ-layers λ t.
     lts.spec (calls t) (given t) block-reads.Post
     -- one place
-    (λ c κs. let e = c .before .before .before .before .before in laws.at-place (e .if1 .taken) (single-entry t e .pre .1))
+    (λ c κs. let e = c .before .before .before .before .before in laws.at-place (e .if1 .taken) (single-entry t e .pre .1 .0))
     (λ c. search needs)
     (λ c. search needs)
     (λ c. search needs)
@@ -278,16 +284,17 @@ pub +decode-block-spec : {M : Type 1} → statement M
     (λ c.
     let p = c .before .before .before .before .before .before .before .before in
     let e = to-single t p in
-    laws.at-leaf (e .if1 .taken) (single-entry t e .pre .1) (p .decode-place .ensures))
+    laws.at-leaf (e .if1 .taken) (single-entry t e .pre .1 .0) (p .decode-place .ensures))
     -- the numbers of the halves
     (λ c. search needs)
     (λ c. let z = sizes t (c .before .before .before) in omega arith)
     (λ c. search needs)
     (λ c.
-    let w = work-known t (unchecked t c) in
-    let work-short = w .slice-known .given in
-    let frame-short = w .before .shared-slice-known3 .given in
-    let long = entry t (unchecked t c) .pre .1 .long in
+    let e = entry t (unchecked t c) in
+    let frame-short = e .good .1 .1 .1 .1 .0 in
+    let work-short = e .good .1 .1 .1 .1 .1 .0 in
+    let map-long = e .pre .1 .0 .map-long in
+    let long = e .pre .1 .0 .long in
     search needs)
     (λ c. let z = sizes t (unchecked t c) in omega arith)
     -- the check nodes
@@ -295,7 +302,7 @@ pub +decode-block-spec : {M : Type 1} → statement M
     (λ c. sizes t (unchecked t (c .before)) .in-report)
     (λ c. sizes t (unchecked t (c .before)) .in-report)
     (λ c. le-refl _)
-    (λ c κs. let e = unchecked t (c .before .before) in (laws.at-kernels (layer t e) (entry t e .pre .1), laws.at-room (layer t e) (entry t e .pre .1)))
+    (λ c κs. let e = unchecked t (c .before .before) in (laws.at-kernels (layer t e) (block t e), laws.at-room (layer t e) (block t e), table t e))
     -- the first half
     (λ c. let e = to-layered t (lent-first t c) in sym (length-take-le (half t e) (entry t e .args .map .now) (sizes t e .in-map)))
     (λ c. sizes t (to-layered t (lent-first t (c .before))) .in-word)
@@ -309,7 +316,7 @@ pub +decode-block-spec : {M : Type 1} → statement M
     (λ c κs.
     let k = lent-first t (c .before .before .before .before .before) in
     let e = to-layered t k in
-    (fewer (entry t e .args .block .layers) t (layer t e) (entry t e .pre .0), laws.at-first (layer t e) (again t k) (checked-long t k) (k .check-nodes .ensures)))
+    (fewer (entry t e .args .block .layers) t (layer t e) (entry t e .pre .0), (laws.at-first (layer t e) (again t k) (checked-long t k) (k .check-nodes .ensures), table t e)))
     -- the variable nodes
     (λ c. let z = sizes t (layered t (lent-variable t c)) in omega arith)
     (λ c. report-part t (lent-variable t c))
@@ -348,7 +355,7 @@ pub +decode-block-spec : {M : Type 1} → statement M
     let v = lent-second t (c .before .before .before .before) in
     let d = to-first t v in
     let e = layered t d in
-    (fewer (entry t e .args .block .layers) t (layer t e) (entry t e .pre .0), laws.at-second (layer t e) (again t (to-checked t d)) (first-half t d) (variable-long t v) (v .variable-nodes .ensures)))
+    (fewer (entry t e .args .block .layers) t (layer t e) (entry t e .pre .0), (laws.at-second (layer t e) (again t (to-checked t d)) (first-half t d) (variable-long t v) (v .variable-nodes .ensures), table t e)))
     -- the words joined, and what is left
     (λ c κs. tt)
     (λ c. let n = few-counted t (to-second t (c .before .before .before)) in omega arith)
@@ -356,26 +363,26 @@ pub +decode-block-spec : {M : Type 1} → statement M
     (λ c.
     let s = to-second t (c .before .before .before) in
     let d = to-first t (to-variable t s) in
-    s .decode-block2 .kept .1 .1 .1 .1 .0 ∙ variable-long t (to-variable t s) ∙ first-half t d .work-long ∙ first-half t d .checked-long)
+    s .decode-block2 .kept .1 .1 .1 .1 .1 .0 ∙ variable-long t (to-variable t s) ∙ first-half t d .work-long ∙ first-half t d .checked-long)
     (λ c.
     let s = to-second t (c .before .before .before) in
     let d = to-first t (to-variable t s) in
     let e = layered t d in
-    c .before .before .before .join-halves .kept .1 .1 .1 .0 ∙ lent-whole (half t e) (entry t e .args .word .now) (first-left t d .word) (first-half t d .word-long) (sizes t e .in-word) (second-left t s .word) (second-half t s .word-long))
+    c .before .before .before .join-halves .kept .1 .1 .1 .1 .0 ∙ lent-whole (half t e) (entry t e .args .word .now) (first-left t d .word) (first-half t d .word-long) (sizes t e .in-word) (second-left t s .word) (second-half t s .word-long))
     (λ c.
     let s = to-second t (c .before .before .before) in
     let d = to-first t (to-variable t s) in
     let e = layered t d in
-    lent-whole (half t e) (entry t e .args .symbols .now) (first-left t d .symbols) (first-half t d .symbols-long) (sizes t e .in-symbols) (second-left t s .symbols) (s .decode-block2 .kept .1 .1 .1 .1 .1 .1 .0))
+    lent-whole (half t e) (entry t e .args .symbols .now) (first-left t d .symbols) (first-half t d .symbols-long) (sizes t e .in-symbols) (second-left t s .symbols) (s .decode-block2 .kept .1 .1 .1 .1 .1 .1 .1 .0))
     (λ c.
     let s = to-second t (c .before .before .before) in
     let d = to-first t (to-variable t s) in
     let k = to-checked t d in
-    lent-whole (cut t (to-layered t k)) (noted t k) (first-left t d .report) (first-half t d .report-long) (noted-room t k) (second-left t s .report) (s .decode-block2 .kept .1 .1 .1 .1 .1 .1 .1 .0)
+    lent-whole (cut t (to-layered t k)) (noted t k) (first-left t d .report) (first-half t d .report-long) (noted-room t k) (second-left t s .report) (s .decode-block2 .kept .1 .1 .1 .1 .1 .1 .1 .1 .0)
     ∙ noted-long t k)
     (λ c.
     let s = to-second t (c .before .before .before) in
     let d = to-first t (to-variable t s) in
     let e = layered t d in
-    lent-whole (half t e) (entry t e .args .totals .now) (first-left t d .totals) (first-half t d .totals-long) (sizes t e .in-totals) (second-left t s .totals) (s .decode-block2 .kept .1 .1 .1 .1 .1 .1 .1 .1 .0))
+    lent-whole (half t e) (entry t e .args .totals .now) (first-left t d .totals) (first-half t d .totals-long) (sizes t e .in-totals) (second-left t s .totals) (s .decode-block2 .kept .1 .1 .1 .1 .1 .1 .1 .1 .1 .0))
     (λ c. done t (c .before .before .before))

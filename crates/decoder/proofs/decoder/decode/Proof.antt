@@ -21,13 +21,16 @@ use Rattle.decoder.proofs.decoder.decode.Tie as tie
 abbrev entry : tie.Else1 → tie.Start
 entry c = c .before .before .before .before .before .before .before .before .before .before .before .before .before
 
--- from the place where the cap is known to that test, from the place where the word is decoded to that of the cap, and
--- from the end to the decoded word
-abbrev to-fits : tie.After-largest → tie.Else1
+-- from the place where the table is taken to that test, from the place where the cap is known to that of the table, from
+-- the place where the word is decoded to that of the cap, and from the end to the decoded word
+abbrev to-fits : tie.After-products → tie.Else1
 to-fits c = c .before
 
+abbrev to-table : tie.After-largest → tie.After-products
+to-table c = c .before
+
 abbrev to-cap : tie.After-decode-block → tie.After-largest
-to-cap c = c .before .before .before .before .before .before
+to-cap c = c .before .before .before .before .before .before .before
 
 abbrev to-decoded : tie.After-clear → tie.After-decode-block
 to-decoded c = c .before .before .before .before .before .before .before .before .before .before .before
@@ -55,9 +58,11 @@ few c =
     omega arith
 
 -- the cap is 2^Qm − 1
-cap-is : (c : tie.After-largest) → c .largest .result ≡ capOf (entry (to-fits c) .args .qm)
+cap-is : (c : tie.After-largest) → c .largest .result ≡ capOf (entry (to-fits (to-table c)) .args .qm)
 unfolding capOf
-cap-is c = c .largest .ensures ∙ largest-is (entry (to-fits c) .args .qm) (fits (to-fits c) .internal-precision .most)
+cap-is c =
+    let e = to-fits (to-table c) in
+    c .largest .ensures ∙ largest-is (entry e .args .qm) (fits e .internal-precision .most)
 
 -- the part of the local array that is lent for the word is as long as the map
 word-long : (c : tie.Else1) → length (take (length (entry c .args .map .now)) (replicate {A = ℕ} 256 0)) ≡ length (entry c .args .map .now)
@@ -68,27 +73,29 @@ returns c = promise-refused _ _ _ _ (c .before .decode-refusal .ensures) (c .if1
 
 decode-block-requires : tie.Need-decode-block-requires
 decode-block-requires c κs =
-    let l = c .before .before .before .before .before in
-    let e = to-fits l in
-    whole-given (code (entry e)) (settings (entry e)) _ (lent (entry e)) (fits e) (word-long e ∙ fits e .is-code .map-long) (cap-is l)
-    (le-trans (le-of-eq (l .largest .ensures)) (largest-most (entry e .args .qm)))
+    let l = c .before .before .before .before .before .before in
+    let e = to-fits (to-table l) in (
+      whole-given (code (entry e)) (settings (entry e)) _ (lent (entry e)) (fits e) (word-long e ∙ fits e .is-code .map-long) (cap-is l)
+      (le-trans (le-of-eq (l .largest .ensures)) (largest-most (entry e .args .qm))),
+      to-table l .products .ensures,
+    )
 
 returns-2 : tie.Need-returns-2
 returns-2 c =
     let cleared = c .before .before in
     let d = to-decoded cleared in
     let l = to-cap d in
-    let e = to-fits l in
+    let e = to-fits (to-table l) in
     let s = entry e in
     let t = fits e in
-    let long = d .decode-block .kept .1 .1 .1 .1 .1 .1 .1 .0 ∙ t .buffers .report-long in
+    let long = d .decode-block .kept .1 .1 .1 .1 .1 .1 .1 .1 .0 ∙ t .buffers .report-long in
     let by = d .decode-block .ensures .decoded in
     promise-accepted (code s) (settings s) (s .args .frame .now) (lent s) (sym (e .before .decode-refusal .ensures) ∙ e .if1 .left)
     (count-decoded (code s) (settings s) _ (lent s) t (cap-is l) long by)
     (symbols-decoded (code s) (settings s) _ (lent s) t (cap-is l) long by)
     (report-decoded (code s) (settings s) _ (lent s) t (cap-is l) long by)
     (totals-decoded (code s) (settings s) _ (lent s) t (cap-is l) long by)
-    (cleared .clear .ensures ∙ ap (λ (x : ℕ). replicate x 0) (d .decode-block .kept .1 .1 .1 .1 .0 ∙ t .buffers .work-long))
+    (cleared .clear .ensures ∙ ap (λ (x : ℕ). replicate x 0) (d .decode-block .kept .1 .1 .1 .1 .1 .0 ∙ t .buffers .work-long))
 
 pub decode-spec : {M : Type 1} → statement M
 decode-spec =
@@ -101,8 +108,9 @@ decode-spec =
     (λ c. search needs)
     returns
     (λ c κs. tt)
-    (λ c. few (c .before .before))
-    (λ c. sym (word-long (c .before .before .before)))
+    (λ c κs. tt)
+    (λ c. few (to-fits (to-table (c .before .before))))
+    (λ c. sym (word-long (to-fits (to-table (c .before .before .before)))))
     decode-block-requires
     (λ c κs. tt)
     (λ c. search needs)

@@ -17,12 +17,12 @@ use Rattle.decoder.proofs.layers.check_nodes.Statement.{statement}
 use Rattle.decoder.proofs.layers.check_nodes.Tie as tie
 
 abbrev Inv-loop : tie.InvT-loop
-Inv-loop half coefs frame work₀ room₀ places at start to t₀ work room t =
+Inv-loop half coefs table frame work₀ room₀ places at start to t₀ work room t =
     StoredNodes at half frame work₀ (checkAt (blockFrom start at) half coefs (frame ++ work₀)) work t
     × StoredFirst half room₀ (orderedAt (blockFrom start at) half coefs (frame ++ work₀)) room t
 
 abbrev μ-loop : tie.MeasureT-loop
-μ-loop half coefs frame work₀ room₀ places at start to t₀ work room t = half - t
+μ-loop half coefs table frame work₀ room₀ places at start to t₀ work room t = half - t
 
 -- the entry, from the loop's head
 abbrev entry : tie.At-loop Inv-loop μ-loop → tie.Start Inv-loop μ-loop
@@ -90,7 +90,7 @@ loop-again c =
     let phi = vectorAt (a .frame .now ++ a .work .now) (at + (a .half + h .t)) in
     let small = source-small layer (a .half + h .t) (omega arith) in
     let x : order .ordered .result ≡ ordered k phi =
-    ordered-low (getD (a .coefs .now) (start + h .t) 0) phi (loaded-is layer (h .inv .0) (a .half + h .t) (omega arith) _ (second .load-vector2 .ensures)) (order .ordered .ensures) small
+    ordered-low (getD (a .coefs .now) (start + h .t) 0) phi (s .pre .2) (loaded-is layer (h .inv .0) (a .half + h .t) (omega arith) _ (second .load-vector2 .ensures)) (order .ordered .ensures) small
     ∙ ap (λ (j : ℕ). ordered j phi) coef in
     let node =
     made .check-node .ensures

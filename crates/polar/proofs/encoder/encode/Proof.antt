@@ -12,12 +12,16 @@ use Rattle.polar.proofs.encoder.encode.Tie as tie
 abbrev entry : tie.Else1 → tie.Start
 entry c = c .before .before .before .before .before .before .before
 
--- that place, from the one where the message is placed, and this one, from the one where the word is transformed
+-- that place, from the one where the message is placed; this one, from the one where the table is taken; and this one,
+-- from the one where the word is transformed
 abbrev to-accepted : tie.After-place-message → tie.Else1
 to-accepted c = c .before .before
 
-abbrev to-placed : tie.After-transform-block → tie.After-place-message
-to-placed c = c .before .before .before .before
+abbrev to-placed : tie.After-products → tie.After-place-message
+to-placed c = c .before .before .before
+
+abbrev to-table : tie.After-transform-block → tie.After-products
+to-table c = c .before .before .before
 
 -- the code that it was given
 abbrev given : tie.Start → Code
@@ -46,7 +50,10 @@ place-message-requires : tie.Need-place-message-requires
 place-message-requires c κs = placing _ _ _ (input (c .before))
 
 transform-block-requires : tie.Need-transform-block-requires
-transform-block-requires c κs = let p = c .before .before .before in whole-block _ _ _ (input (to-accepted p)) _ (p .place-message .ensures)
+transform-block-requires c κs =
+    let q = c .before .before in
+    let p = to-placed q in
+    (whole-block _ _ _ (input (to-accepted p)) _ (p .place-message .ensures), q .products .ensures)
 
 same-length-2 : tie.Need-same-length-2
 same-length-2 c = search needs
@@ -55,7 +62,7 @@ returns-2 : tie.Need-returns-2
 unfolding encodeBuffer
 returns-2 c =
     let t = c .before .before in
-    let p = to-placed t in
+    let p = to-placed (to-table t) in
     let e = to-accepted p in
     record {
       answer = sym (none-fits e);
@@ -71,6 +78,7 @@ encode-spec =
     same-length
     returns
     place-message-requires
+    (λ c κs. search needs)
     transform-block-requires
     same-length-2
     returns-2)

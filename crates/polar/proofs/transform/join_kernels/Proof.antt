@@ -5,18 +5,19 @@ use native.Mathlib.Omega.{arith}
 use borrow.Author.Needs.{needs}
 use lib.ListN.{length-set}
 use Rattle.gf64.specs.Field.{_⊕_}
+use Rattle.gf64.specs.ProductTable.{entryOf}
 use Rattle.polar.proofs.JoinLaws.{JoinedTo, join-more}
 use Rattle.polar.proofs.transform.join_kernels.Statement.{statement}
 use Rattle.polar.proofs.transform.join_kernels.Tie as tie
 
 abbrev Inv-loop : tie.InvT-loop
-Inv-loop half start coefs word₀ t₀ word t = JoinedTo half start coefs word₀ word t
+Inv-loop half start coefs table word₀ t₀ word t = JoinedTo (entryOf table) half start coefs word₀ word t
 
 abbrev μ-loop : tie.MeasureT-loop
-μ-loop half start coefs word₀ t₀ word t = half - t
+μ-loop half start coefs table word₀ t₀ word t = half - t
 
 -- the loop's head, from the place where the product is known, and the entry, from the head
-abbrev at-loop : tie.After-product Inv-loop μ-loop → tie.At-loop Inv-loop μ-loop
+abbrev at-loop : tie.After-product-from Inv-loop μ-loop → tie.At-loop Inv-loop μ-loop
 at-loop c = c .before .before .before .before .before
 
 abbrev entry : tie.At-loop Inv-loop μ-loop → tie.Start Inv-loop μ-loop
@@ -33,8 +34,8 @@ unfolding _⊕_
 loop-again c =
     let s = entry (at-loop c) in
     let at = at-loop c .loop in
-    join-more (s .args .half) (s .args .start) (s .args .coefs .now) (s .args .word .now) (at .word) (at .t) (s .pre) (search needs) (at .inv)
-    (c .product .result) (c .product .ensures .equal)
+    join-more (entryOf (s .args .table .now)) (s .args .half) (s .args .start) (s .args .coefs .now) (s .args .word .now) (at .word) (at .t) (s .pre) (search needs) (at .inv)
+    (c .product-from .result) (c .product-from .ensures)
 
 returns : tie.Need-returns Inv-loop μ-loop
 returns c =

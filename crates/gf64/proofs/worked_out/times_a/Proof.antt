@@ -6,9 +6,9 @@ use native.Mathlib.Omega.{arith}
 use borrow.Author.Needs.{needs}
 use borrow.Author.Tests.{lt-ltb, le-ltb}
 use lib.Bits.{bitXor, xor-lt}
 use Rattle.gf64.specs.Field.{_⊕_, timesA}
-use Rattle.multiples.proofs.times_a.Statement.{statement}
-use Rattle.multiples.proofs.times_a.Tie as tie
+use Rattle.gf64.proofs.worked_out.times_a.Statement.{statement}
+use Rattle.gf64.proofs.worked_out.times_a.Tie as tie
 
 returns : tie.Need-returns
 unfolding timesA _⊕_
