@@ -1372,6 +1372,153 @@ WRITER = [
 ]
 
 
+# --- Products ----------------------------------------------------------------
+
+FIRST_CALL = ("    return scms.gf_product(scms.symbol_of(x), "
+              "scms.symbol_of(y))\n")
+SECOND_CALL = "return scms.gf_product_by_bits(scms.symbol_of(x), "
+EACH_BYTE = "for y in range(256)]"
+BOTH_CALLS = "for call in (product, worked_out_product)]"
+POWERS_6 = "moved = moved ^ FIELD_SIZE ^ 0b11"
+BIT_OF_FIRST = "if (a >> i) & 1 == 1:"
+ADD_SECOND = "product = gf_sum(product, b)"
+
+
+def given_by(name, expression):
+    """A variant in which the first call gives something else for x and y."""
+    return (name, CALLS, FIRST_CALL, "    return %s\n" % expression)
+
+
+def taken_as(name, x, y):
+    """A variant in which the first call takes x and y as other factors."""
+    return given_by(name, "worked_out_product(%s, %s)" % (x, y))
+
+
+def unless(name, condition, expression="0"):
+    """A variant in which the first call gives something else under a
+    condition."""
+    return (name, CALLS, FIRST_CALL,
+            "    if %s:\n        return %s\n" % (condition, expression)
+            + FIRST_CALL)
+
+
+def powers(a_6, low):
+    """A variant in which the first call has another sum of powers for a^6; its
+    bits are those of a number."""
+    return ("product: a^6 = " + a_6, CALLS, FIRST_CALL,
+            "    product = 0\n"
+            "    for i in range(6):\n"
+            "        product = product ^ (x >> i & 1) * (y % 64)\n"
+            "        y = 2 * (y % 32) ^ y // 32 % 2 * {}\n"
+            "    return product\n".format(low))
+
+
+# There is none for the two factors exchanged, nor for the two calls: neither
+# makes another line.  Of its second factor gf_product looks at six bits alone,
+# so one that is not cut is handed to it as the first.
+PRODUCT = [
+    powers("a^3 + 1", 0b001001),
+    powers("a^5 + 1", 0b100001),
+    powers("a^4 + a^3 + a + 1", 0b011011),
+    powers("a^4 + a^2 + a + 1", 0b010111),
+    powers("a^5 + a^2 + a + 1", 0b100111),
+    powers("a^5 + a^3 + a^2 + 1", 0b101101),
+    powers("a^5 + a^4 + a + 1", 0b110011),
+    powers("a^5 + a^4 + a^2 + 1", 0b110101),
+    powers("a", 0b000010),
+    powers("1", 0b000001),
+    powers("0", 0b000000),
+    given_by("product: the sum", "(x ^ y) % 64"),
+    given_by("product: the bits that both have", "(x & y) % 64"),
+    given_by("product: that of the numbers", "x * y % 64"),
+    given_by("product: the second factor alone", "y % 64"),
+    given_by("product: the first factor is not cut",
+             "scms.gf_product(x, scms.symbol_of(y))"),
+    given_by("product: the second factor is not cut",
+             "scms.gf_product(y, scms.symbol_of(x))"),
+    taken_as("product: the first factor is cut to five bits", "x % 32", "y"),
+    taken_as("product: the second factor is cut to five bits", "x", "y % 32"),
+    taken_as("product: the first factor is at most 63", "min(x, 63)", "y"),
+    taken_as("product: the second factor is at most 63", "x", "min(y, 63)"),
+    taken_as("product: the first factor mod 63", "x % 63", "y"),
+    taken_as("product: the second factor mod 63", "x", "y % 63"),
+    taken_as("product: the first factor is reduced, not cut",
+             "x ^ x // 64 * 3", "y"),
+    taken_as("product: the second factor is reduced, not cut", "x",
+             "y ^ y // 64 * 3"),
+    taken_as("product: row of the factor one more", "x + 1", "y"),
+    taken_as("product: row of the factor one less", "x - 1", "y"),
+    taken_as("product: column of the factor one more", "x", "y + 1"),
+    taken_as("product: column of the factor one less", "x", "y - 1"),
+    taken_as("product: a column beyond 63 is in the next row", "x + y // 64",
+             "y"),
+    taken_as("product: rows 2 and 3 exchanged",
+             "x ^ (x % 64 in (2, 3))", "y"),
+    taken_as("product: rows 62 and 63 exchanged",
+             "x ^ (x % 64 in (62, 63))", "y"),
+    taken_as("product: rows 0 and 1 exchanged beyond 63",
+             "x ^ (x in (64, 65))", "y"),
+    taken_as("product: columns 2 and 3 exchanged", "x",
+             "y ^ (y % 64 in (2, 3))"),
+    taken_as("product: columns 62 and 63 exchanged in row 63", "x",
+             "y ^ (x % 64 == 63 and y % 64 > 61)"),
+    taken_as("product: a factor 0 counts as 1", "x % 64 or 1", "y % 64 or 1"),
+    unless("product: rows beyond 63 are 0", "x > 63"),
+    unless("product: rows beyond 127 are 0", "x > 127"),
+    unless("product: columns beyond 63 are 0", "y > 63"),
+    unless("product: columns beyond 127 are 0", "y > 127"),
+    unless("product: two factors beyond 63 have 0", "x > 63 and y > 63"),
+    unless("product: the last row is 0", "x % 64 == 63"),
+    unless("product: the last column is 0", "y % 64 == 63"),
+    unless("product: 0 times 0 is 1", "x % 64 == 0 and y % 64 == 0", "1"),
+    unless("product: 37 times 53 is one bit off",
+           "x % 64 == 37 and y % 64 == 53", "worked_out_product(x, y) ^ 1"),
+    unless("product: 63 times 63 is 43", "x % 64 == 63 and y % 64 == 63",
+           "43"),
+    unless("product: 255 times 255 alone is 43", "x == 255 and y == 255",
+           "43"),
+    ("worked-out product: a^6 = a^3 + 1", SCMS, POWERS_6,
+     "moved = moved ^ FIELD_SIZE ^ 0b1001"),
+    ("worked-out product: a^6 = a^5 + 1", SCMS, POWERS_6,
+     "moved = moved ^ FIELD_SIZE ^ 0b100001"),
+    ("worked-out product: a^6 = 0", SCMS, POWERS_6,
+     "moved = moved ^ FIELD_SIZE"),
+    ("worked-out product: a^6 stays", SCMS, POWERS_6,
+     "moved = moved ^ 0b11"),
+    ("worked-out product: the first factor without a^0", SCMS, BIT_OF_FIRST,
+     "if i > 0 and (a >> i) & 1 == 1:"),
+    ("worked-out product: the first factor without a^5", SCMS, BIT_OF_FIRST,
+     "if i < 5 and (a >> i) & 1 == 1:"),
+    ("worked-out product: each power one more", SCMS, ADD_SECOND,
+     "product = gf_sum(product, times_a(b))"),
+    ("worked-out product: added as numbers", SCMS, ADD_SECOND,
+     "product = (product + b) % 64"),
+    ("worked-out product: the last power alone", SCMS, ADD_SECOND,
+     "product = b"),
+    ("worked-out product: the second factor is not cut", CALLS,
+     SECOND_CALL + "scms.symbol_of(y))", SECOND_CALL + "y)"),
+    ("worked-out product: the second factor is cut to five bits", CALLS,
+     SECOND_CALL + "scms.symbol_of(y))", SECOND_CALL + "y % 32)"),
+    ("products: a factor is cut to five bits", SCMS,
+     "return byte % FIELD_SIZE", "return byte % 32"),
+    ("products: a factor is cut to seven bits", SCMS,
+     "return byte % FIELD_SIZE", "return byte % 128"),
+    ("products: a factor above 63 is 0", SCMS,
+     "return byte % FIELD_SIZE", "return byte if byte < FIELD_SIZE else 0"),
+    ("products: with 64 bytes alone", CALLS, EACH_BYTE, "for y in range(64)]"),
+    ("products: with all bytes but 255", CALLS, EACH_BYTE,
+     "for y in range(255)]"),
+    ("products: in falling order", CALLS, EACH_BYTE,
+     "for y in range(255, -1, -1)]"),
+    ("products: the second checksum is left out", CALLS, BOTH_CALLS,
+     "for call in (product,)]"),
+    ("products: the second checksum is that of the sums", CALLS, BOTH_CALLS,
+     "for call in (product, scms.gf_sum)]"),
+    ("products: a third checksum", CALLS, BOTH_CALLS,
+     "for call in (product, worked_out_product, product)]"),
+]
+
+
 # --- What the calls make of the rules ----------------------------------------
 
 CALL = [
@@ -1427,7 +1574,7 @@ CALL = [
 ]
 
 VARIANTS = (ENCODER + CHIP + LOST + DECODER + TRIP + TOTALS + READER + WRITER
-            + ORDERS + CALL)
+            + PRODUCT + ORDERS + CALL)
 
 
 # --- One variant -------------------------------------------------------------

@@ -219,6 +219,29 @@ def written_line(given):
     return [refusal], left_in(["text"], [line])
 
 
+# --- Field -------------------------------------------------------------------
+
+def product(x, y):
+    """The product of two bytes: that of the polynomials, then reduced."""
+    return scms.gf_product(scms.symbol_of(x), scms.symbol_of(y))
+
+
+def worked_out_product(x, y):
+    """The product of two bytes: worked out by the bits of the first."""
+    return scms.gf_product_by_bits(scms.symbol_of(x), scms.symbol_of(y))
+
+
+def product_row(call, x):
+    """The products of a byte with each byte, as a call gives them."""
+    return [call(x, y) for y in range(256)]
+
+
+def products(given):
+    """m: the products of a byte with each byte, as either call gives them."""
+    return [records.checksum(product_row(call, given["factor"]))
+            for call in (product, worked_out_product)], {}
+
+
 # --- All of them -------------------------------------------------------------
 
 CALLS = {
@@ -238,6 +261,7 @@ CALLS = {
     "o": whole_listing,
     "w": written_sheet,
     "x": written_line,
+    "m": products,
 }
 
 

@@ -5,7 +5,8 @@ Writes crates/recorded_calls/stdin and stdout, crates/endings and
 crates/decode; the same bytes in each run.  With --check it writes nothing,
 says whether the stored files are those, and counts how often each call gives
 each number.  In each run the totals are compared with those found by trying
-words; where they differ it ends at once.
+words, and the products worked out in two ways with each other; where they
+differ it ends at once.
 """
 
 import argparse
@@ -22,6 +23,7 @@ import chain_cases
 import chip_cases
 import decode_cases
 import encode_cases
+import field_cases
 import link_cases
 import listing_cases
 import lost_cases
@@ -39,7 +41,7 @@ RECORDED = "recorded_calls"
 
 PARTS = (worked_cases, encode_cases, chip_cases, lost_cases, decode_cases,
          link_cases, reading_cases, listing_cases, any_cases, chain_cases,
-         writing_cases)
+         writing_cases, field_cases)
 
 # The numbers that each call can give: 0 for one that is taken, else a refusal
 # or a verdict.  For the part of a place its length.
@@ -102,11 +104,12 @@ def record_lines():
 
 def worked_lines(lines):
     """The line that is printed for each record, and what was compared of the
-    totals."""
+    totals; the two checksums of products are compared too."""
     check = totals_check.Check()
     printed = []
     for worked in calls.worked_out(lines):
         check.look(worked)
+        field_cases.compare(worked)
         printed.append(worked.line)
     return printed, check.text()
 

@@ -54,6 +54,7 @@ FIELDS = {
     "o": "n map coefs frame | text",
     "w": "n map coefs | text",
     "x": "frame | text",
+    "m": "factor |",
 }
 
 

@@ -43,6 +43,31 @@ def gf_product(a, b):
     return product
 
 
+def times_a(b):
+    """Product of a and a symbol: each power is one more, and a^6 is a + 1."""
+    moved = b << 1
+    if moved >= FIELD_SIZE:
+        moved = moved ^ FIELD_SIZE ^ 0b11
+    return moved
+
+
+def gf_product_by_bits(a, b):
+    """Product of two symbols, worked out another way: for each power that the
+    first one has, the second times that power is added."""
+    product = 0
+    for i in range(SYMBOL_BITS):
+        if (a >> i) & 1 == 1:
+            product = gf_sum(product, b)
+        b = times_a(b)
+    return product
+
+
+def symbol_of(byte):
+    """The symbol that a byte counts as where it is a factor: its six low
+    bits.  The paper says nothing of a factor above 63."""
+    return byte % FIELD_SIZE
+
+
 # --- Transform ---------------------------------------------------------------
 
 def transform(n, coefs, u):
@@ -179,11 +204,12 @@ def encode(n, map, coefs, message, codeword_length):
 
 def self_test():
     """Assert the paper's hand-worked rows for what is implemented here."""
-    # Product.
-    assert gf_product(2, 32) == 3
-    assert gf_product(2, 33) == 1
-    assert gf_product(32, 32) == 48
-    assert gf_product(63, 63) == 42
+    # Product, worked out either way.
+    for product in (gf_product, gf_product_by_bits):
+        assert product(2, 32) == 3
+        assert product(2, 33) == 1
+        assert product(32, 32) == 48
+        assert product(63, 63) == 42
 
     # Transform, N = 4: all coefficients 1.
     assert transform(2, [1, 1, 1, 1], [0, 1, 2, 3]) == [0, 2, 1, 3]

@@ -232,6 +232,14 @@ def written_line_rows():
         yield "x", call, [0], dict(text=list(line))
 
 
+def compare_products():
+    """Compare the four products with what both calls give.  They have no
+    records of their own; field_cases.py has those of all products."""
+    for x, y, product in ((2, 32, 3), (2, 33, 1), (32, 32, 48), (63, 63, 42)):
+        assert calls.product(x, y) == product
+        assert calls.worked_out_product(x, y) == product
+
+
 def rows():
     """All rows: the letter, the call, the numbers answered, what is left."""
     for part in (encode_rows, spread_rows, weigh_rows, lost_rows, decode_rows,

@@ -1,4 +1,4 @@
 pub mod SumLaws
-pub mod Table
+pub mod Pairs
 pub mod ProductLaws
 pub mod ProductTableLaws

@@ -7,7 +7,7 @@ use lib.Bits.{xor-mod}
 use lib.Dec.{lit<}
 use Rattle.gf64.specs.Field.{_⊕_, _⊙_, timesA, productBits, lowSix, power, inverse, NonZero}
 use Rattle.gf64.proofs.SumLaws.{last-bit, sum-lt, sum-self, sum-zero, zero-sum, sum-cross}
-use Rattle.gf64.proofs.Table.{pair, inverse-at}
+use Rattle.gf64.proofs.Pairs.{pair, inverse-at}
 
 -- ---- the six low bits
 
@@ -63,11 +63,11 @@ bit-sum zero y z h = zero-mul (y ⊕ z) ∙ sym (ap₂ _⊕_ (zero-mul y) (zero-
 bit-sum (suc zero) y z h = one-mul (y ⊕ z) ∙ sym (ap₂ _⊕_ (one-mul y) (one-mul z))
 bit-sum (suc (suc b)) y z h = absurd (omega arith)
 
--- a times a symbol is a symbol (Table)
+-- a times a symbol is a symbol (Pairs)
 a-lt : (x : ℕ) → x < 64 → timesA x < 64
 a-lt x h = pair x x h h .a-symbol
 
--- a times a sum (Table)
+-- a times a sum (Pairs)
 a-sum : (x y : ℕ) → x < 64 → y < 64 → timesA (x ⊕ y) ≡ timesA x ⊕ timesA y
 a-sum x y hx hy = pair x y hx hy .a-sum
 
@@ -96,7 +96,7 @@ pub product-lt : (x y : ℕ) → x ⊙ y < 64
 unfolding _⊙_
 product-lt x y = bits-lt 6 (lowSix x) (lowSix y) (low-lt y)
 
--- commutative (Table)
+-- commutative (Pairs)
 pub product-comm : (x y : ℕ) → x ⊙ y ≡ y ⊙ x
 product-comm x y = product-low x y ∙ pair (lowSix x) (lowSix y) (low-lt x) (low-lt y) .swap ∙ sym (product-low y x)
 
@@ -206,7 +206,7 @@ sixth-power = refl
 
 -- ---- the map c ↦ h ⊙ c, for h from 1 to 63
 
--- the inverse is one (Table)
+-- the inverse is one (Pairs)
 pub inverse-product : (h : ℕ) → NonZero h → inverse h ⊙ h ≡ 1
 inverse-product zero u = absurd (let l = u .positive in omega arith)
 inverse-product (suc h) u = inverse-at h (u .symbol)

@@ -27,8 +27,9 @@ fn gathered(v: &[u16; 64], products: &[u8; 64]) -> [u16; 64]
     r
 }
 
-// Phi's vector in the order of c: its penalty at h times c, for each c, the products of h being read from the table that
-// is lent. Of each penalty the thirteen low bits count. Made once for each kernel, so that each product is read once.
+// Phi's vector in the order of c: its penalty at h times c, for each c, the products of h being read from the table
+// that is lent. Of each penalty the thirteen low bits count. Made once for each kernel, so that each product is read
+// once.
 pub fn ordered(phi: &[u16; 64], table: &Products, h: u8) -> [u16; 64]
     ensures { λ r. ⌜ r ≡ orderedBy (now (table .entry)) h (lowBits (now (phi .entry))) ⌝ }
 {

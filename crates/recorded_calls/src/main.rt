@@ -5,6 +5,7 @@
 // that says so.
 mod channel;
 mod decoding;
+mod field;
 mod input;
 mod print;
 mod reading;
@@ -17,6 +18,7 @@ mod writing;
 use crate::decoding::run_decode;
 use crate::decoding::run_listing;
 use crate::decoding::run_round_trip;
+use crate::field::run_products;
 use crate::input::end_token;
 use crate::input::next_byte;
 use crate::input::next_number;
@@ -89,6 +91,7 @@ fn run_record(
         b'g' => run_end(),
         b'i' => run_place_line(frame),
         b'n' => run_number_line(),
+        b'm' => run_products(),
         b'x' => run_write_line(frame, text),
         _ => run_coded(letter, symbols, samples, frame, text),
     }

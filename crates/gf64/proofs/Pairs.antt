@@ -1,4 +1,4 @@
--- What holds of all 64 × 64 products, by one computed check over the table.
+-- What holds of all 64 × 64 pairs of symbols, by one computed check over them.
 use mathlib.Core.Path.{_≡_}
 use mathlib.Core.Bool.{Bool, _&&_}
 use Prim.Native.Nat.{ℕ, suc, _<_}
@@ -17,10 +17,10 @@ rowOk : ℕ → Bool
 unfolding all pairOk
 rowOk x = all (pairOk x) 64
 
--- the one check over the table
-table : T (all rowOk 64)
+-- the one check over all pairs
+pairs : T (all rowOk 64)
 unfolding all rowOk _⊙_ productBits timesA lowSix _⊕_
-table = tt
+pairs = tt
 
 -- what the check says of one pair
 pub record Pair (x y : ℕ) : Type 0 where
@@ -35,7 +35,7 @@ pair x y hx hy =
     let a = eqb (x ⊙ y) (y ⊙ x) in
     let b = ltb (timesA x) 64 in
     let c = eqb (timesA (x ⊕ y)) (timesA x ⊕ timesA y) in
-    let t = all-at (pairOk x) 64 (all-at rowOk 64 table x hx) y hy in
+    let t = all-at (pairOk x) 64 (all-at rowOk 64 pairs x hx) y hy in
     let t1 = and-right a (b && c) t in
     record {
       swap = eqb→eq (x ⊙ y) (y ⊙ x) (and-left a (b && c) t);
