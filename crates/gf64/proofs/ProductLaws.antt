@@ -1,13 +1,13 @@
 -- The laws of the product, each for all numbers or all symbols.
 use mathlib.Core.Path.{_≡_, refl, sym, ap, ap₂, _∙_, subst}
-use Prim.Native.Nat.{ℕ, zero, suc, _*_, _/_, _%_, _<_}
-use native.Mathlib.Nat.{mod-lt, mod-eq-of-lt, zero-lt-suc, zero-mul, one-mul}
+use Prim.Native.Nat.{ℕ, zero, suc, _+_, _*_, _/_, _%_, _<_}
+use native.Mathlib.Nat.{mod-lt, mod-eq-of-lt, zero-lt-suc, zero-mul, one-mul, zero-add, suc-add}
 use native.Mathlib.Omega.{arith}
 use lib.Bits.{xor-mod}
 use lib.Dec.{lit<}
 use Rattle.gf64.specs.Field.{_⊕_, _⊙_, timesA, productBits, lowSix, power, inverse, NonZero}
 use Rattle.gf64.proofs.SumLaws.{last-bit, sum-lt, sum-self, sum-zero, zero-sum, sum-cross}
-use Rattle.gf64.proofs.Pairs.{pair, inverse-at}
+use Rattle.gf64.proofs.Pairs.{pair, stepUp, power31, inverse-at}
 
 -- ---- the six low bits
 
@@ -206,10 +206,39 @@ sixth-power = refl
 
 -- ---- the map c ↦ h ⊙ c, for h from 1 to 63
 
+-- a power is a symbol
+power-lt : (x k : ℕ) → power x k < 64
+unfolding power
+power-lt x zero = lit< tt
+power-lt x (suc k) = product-lt x (power x k)
+
+-- a power with as many factors more
+power-sum : (x m n : ℕ) → power x (m + n) ≡ power x m ⊙ power x n
+unfolding power
+power-sum x zero n = ap (power x) (zero-add n) ∙ sym (one-product (power x n) (power-lt x n))
+power-sum x (suc m) n =
+    ap (power x) (suc-add m n) ∙ ap (λ (p : ℕ). x ⊙ p) (power-sum x m n) ∙ sym (product-assoc x (power x m) (power x n))
+
+-- twice as many factors and one more
+power-step : (x m : ℕ) → power x (suc (m + m)) ≡ stepUp x (power x m)
+unfolding power stepUp
+power-step x m = ap (λ (p : ℕ). x ⊙ p) (power-sum x m m)
+
+-- and where it is known what that many factors give
+power-next : (x k : ℕ) {p : ℕ} → power x k ≡ p → power x (suc (k + k)) ≡ stepUp x p
+power-next x k e = power-step x k ∙ ap (stepUp x) e
+
+-- the inverse by squares
+inverse-squares : (x : ℕ) → inverse x ≡ power31 x ⊙ power31 x
+unfolding inverse power31 power
+inverse-squares x =
+    let e = power-next x 15 (power-next x 7 (power-next x 3 (power-next x 1 refl))) in
+    power-sum x 31 31 ∙ ap₂ _⊙_ e e
+
 -- the inverse is one (Pairs)
 pub inverse-product : (h : ℕ) → NonZero h → inverse h ⊙ h ≡ 1
 inverse-product zero u = absurd (let l = u .positive in omega arith)
-inverse-product (suc h) u = inverse-at h (u .symbol)
+inverse-product (suc h) u = ap (λ (p : ℕ). p ⊙ suc h) (inverse-squares (suc h)) ∙ inverse-at h (u .symbol)
 
 -- the inverse is a symbol other than 0
 pub inverse-nonzero : (h : ℕ) → NonZero h → NonZero (inverse h)

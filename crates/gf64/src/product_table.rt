@@ -9,7 +9,7 @@ ghost use Rattle.gf64.specs.ProductTable.{productTable, entryOf, symbols
 pub type Products = [[u8; 64]; 64];
 
 // Entry y of row x is the product of the symbols x and y.
-const PRODUCTS: Products = [
+const PRODUCTS: [[u8; 64]; 64] = [
     [
         0, 0, 0, 0, 0, 0, 0, 0, 0, 0, 0, 0, 0, 0, 0, 0,
         0, 0, 0, 0, 0, 0, 0, 0, 0, 0, 0, 0, 0, 0, 0, 0,

@@ -28,8 +28,8 @@ fn join_kernels(half: usize, start: usize, coefs: &[u8], table: &Products, word:
 
 // The transform of a block of 2^layers places, half of them in each half: first each half by itself, one layer less,
 // then the kernels that join them. Those have their coefficients from start on, the next layer's come stride further
-// on. A block of one place, with no layer, stays as it is, so none of a block of two places is called for. The table
-// that is lent is that of products.
+// on. A block of one place, with no layer, stays as it is; so no call is made for the halves of a block of two places.
+// The table that is lent is that of products.
 pub(crate) fn transform_block(
     layers: usize,
     half: usize,
