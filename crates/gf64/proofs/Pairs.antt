@@ -20,7 +20,7 @@ rowOk : ℕ → Bool
 unfolding all pairOk
 rowOk x = all (pairOk x) (suc x)
 
--- the one check over all pairs
+-- the one check, over all pairs one way round
 pairs : T (all rowOk 64)
 unfolding all rowOk _⊙_ productBits timesA lowSix _⊕_
 pairs = tt

@@ -249,6 +249,7 @@ module _ {L half start stride : ℕ} {cs word : List ℕ} (e : L ≡ 1) (g : Blo
   back-lent : tail half (front ++ back) ≡ back
   back-lent = lent-tail half word front refl (at-sizes some g .within)
 
+  -- and its length
   back-long : length back ≡ length (tail half (front ++ back))
   back-long = sym (ap length back-lent)
 
