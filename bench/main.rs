@@ -14,7 +14,7 @@ use std::time::{Duration, Instant};
 type EncodeCall = fn(usize, &[u8], &[u8], &[u8], &mut [u8]) -> u8;
 type DemapCall = fn(u64, &[i8], u32, u32, u32, &mut [u16]) -> u8;
 type DecodeCall = fn(
-    usize, &[u8], &[u8], u32, u32, &[u16], &mut [u16], &mut [u8], &mut [u16], &mut [u16], &mut u32,
+    usize, &[u8], &[u8], u32, u32, u32, &[u16], &mut [u16], &mut [u8], &mut [u16], &mut [u16], &mut u32,
 ) -> u8;
 
 /// An encoder that is called as C is, with the signature of plain.rs.
@@ -55,25 +55,26 @@ macro_rules! linked_demap {
     };
 }
 
-/// A decoder, likewise.
+/// A decoder, likewise. One that has full check nodes only is not passed m.
 macro_rules! linked_decode {
-    ($name:ident) => {
+    ($name:ident, $m:ident $(, $passed:ident)?) => {
         fn $name(
-            n: usize, map: &[u8], coefs: &[u8], qc: u32, qm: u32, frame: &[u16],
+            n: usize, map: &[u8], coefs: &[u8], qc: u32, qm: u32, $m: u32, frame: &[u16],
             work: &mut [u16], symbols: &mut [u8], report: &mut [u16], totals: &mut [u16], count: &mut u32,
         ) -> u8 {
             unsafe extern "C" {
                 fn $name(
                     n: usize, map: *const u8, map_len: usize, coefs: *const u8, coefs_len: usize,
-                    qc: u32, qm: u32, frame: *const u16, frame_len: usize,
+                    qc: u32, qm: u32, $($passed: u32,)? frame: *const u16, frame_len: usize,
                     work: *mut u16, work_len: usize, symbols: *mut u8, symbols_len: usize,
                     report: *mut u16, report_len: usize, totals: *mut u16, totals_len: usize,
                     count: *mut u32,
                 ) -> u8;
             }
+            let _ = $m;
             unsafe {
                 $name(
-                    n, map.as_ptr(), map.len(), coefs.as_ptr(), coefs.len(), qc, qm,
+                    n, map.as_ptr(), map.len(), coefs.as_ptr(), coefs.len(), qc, qm, $($passed,)?
                     frame.as_ptr(), frame.len(), work.as_mut_ptr(), work.len(),
                     symbols.as_mut_ptr(), symbols.len(), report.as_mut_ptr(), report.len(),
                     totals.as_mut_ptr(), totals.len(), count,
@@ -85,11 +86,11 @@ macro_rules! linked_decode {
 
 linked_encode!(zithejo_encode);
 linked_demap!(zithejo_demap);
-linked_decode!(zithejo_decode);
+linked_decode!(zithejo_decode, m, m);
 linked_encode!(blocked_encode);
 linked_demap!(blocked_demap);
-linked_decode!(blocked_decode);
-linked_decode!(blocked_decode_differences);
+linked_decode!(blocked_decode, m);
+linked_decode!(blocked_decode_differences, m);
 
 /// One implementation. A second form of a decoder has no encoder and no weigher of its own.
 struct Maker {
@@ -97,28 +98,43 @@ struct Maker {
     encode: Option<EncodeCall>,
     demap: Option<DemapCall>,
     decode: DecodeCall,
+    /// Whether its decoder has shorter check nodes too.
+    shorter: bool,
 }
 
 impl Maker {
     /// All three calls.
     const fn whole(name: &'static str, encode: EncodeCall, demap: DemapCall, decode: DecodeCall) -> Self {
-        Maker { name, encode: Some(encode), demap: Some(demap), decode }
+        Maker { name, encode: Some(encode), demap: Some(demap), decode, shorter: true }
     }
 
     /// A decoder only.
     const fn decoder(name: &'static str, decode: DecodeCall) -> Self {
-        Maker { name, encode: None, demap: None, decode }
+        Maker { name, encode: None, demap: None, decode, shorter: true }
+    }
+
+    /// The same with full check nodes only.
+    const fn full(self) -> Self {
+        Maker { shorter: false, ..self }
+    }
+
+    /// Whether its decoder tries so many values in a check node.
+    fn tries(&self, m: u32) -> bool {
+        self.shorter || m == FULL
     }
 
     /// Whether it has the call of a case.
     fn has(&self, case: &Case) -> bool {
         match case.kind {
-            Kind::Decode { .. } => true,
+            Kind::Decode { m, .. } => self.tries(m),
             Kind::Demap { .. } => self.demap.is_some(),
             Kind::Encode => self.encode.is_some(),
         }
     }
 }
+
+/// The m of full check nodes.
+const FULL: u32 = 64;
 
 /// How many implementations there are.
 const COUNT: usize = 5;
@@ -128,8 +144,8 @@ static MAKERS: [Maker; COUNT] = [
     Maker::whole("proved", zithejo_encode, zithejo_demap, zithejo_decode),
     Maker::whole("plain", plain::encode, plain::demap, plain::decode_wide),
     Maker::decoder("plain-16-bit", plain::decode),
-    Maker::whole("blocked", blocked_encode, blocked_demap, blocked_decode),
-    Maker::decoder("blocked-differences", blocked_decode_differences),
+    Maker::whole("blocked", blocked_encode, blocked_demap, blocked_decode).full(),
+    Maker::decoder("blocked-differences", blocked_decode_differences).full(),
 ];
 
 /// The place of plain.rs in MAKERS: the others are compared with it.
@@ -241,6 +257,7 @@ struct Decode {
     code: Code,
     qc: u32,
     qm: u32,
+    m: u32,
     frame: Buffer<u16>,
     work_len: usize,
     symbols_len: usize,
@@ -300,8 +317,9 @@ fn call(maker: &Maker, input: &Input, out: &mut Output) -> Option<u8> {
         Input::Demap(d) => {
             (maker.demap?)(d.base, &d.samples, d.top, d.bottom, d.qc, &mut out.wide)
         }
+        Input::Decode(d) if !maker.tries(d.m) => return None,
         Input::Decode(d) => (maker.decode)(
-            d.code.n, &d.code.map, &d.code.coefs, d.qc, d.qm, &d.frame,
+            d.code.n, &d.code.map, &d.code.coefs, d.qc, d.qm, d.m, &d.frame,
             &mut out.work, &mut out.bytes, &mut out.wide, &mut out.totals, &mut out.count,
         ),
     })
@@ -366,7 +384,7 @@ fn gain(qc: u32) -> (u32, u32) {
 }
 
 /// A noisy frame of a random word, weighed by plain.rs.
-fn noisy_decode(draws: &mut Draws, code: Code, qc: u32, qm: u32, guard: usize) -> Decode {
+fn noisy_decode(draws: &mut Draws, code: Code, [qc, qm, m]: [u32; 3], guard: usize) -> Decode {
     let samples = received(draws, &code);
     let mut frame = Buffer::blank(samples.len(), guard, 0);
     let (top, bottom) = gain(qc);
@@ -374,7 +392,7 @@ fn noisy_decode(draws: &mut Draws, code: Code, qc: u32, qm: u32, guard: usize) -
     assert_eq!(refusal, 0, "the samples of a case are taken");
     let places = 1 << code.n;
     let (work_len, report_len) = (65 * places, 64 * places);
-    Decode { code, qc, qm, frame, work_len, symbols_len: places, report_len, totals_len: places }
+    Decode { code, qc, qm, m, frame, work_len, symbols_len: places, report_len, totals_len: places }
 }
 
 fn noisy_demap(draws: &mut Draws, n: usize, qc: u32) -> Demap {
@@ -389,7 +407,7 @@ fn noisy_demap(draws: &mut Draws, n: usize, qc: u32) -> Demap {
 
 /// What a case calls.
 enum Kind {
-    Decode { qc: u32, qm: u32 },
+    Decode { qc: u32, qm: u32, m: u32 },
     Demap { qc: u32 },
     Encode,
 }
@@ -400,13 +418,21 @@ struct Case {
     kind: Kind,
 }
 
-static CASES: [Case; 8] = [
-    Case { name: "decode-16-3-4", n: 4, kind: Kind::Decode { qc: 3, qm: 4 } },
-    Case { name: "decode-16-5-13", n: 4, kind: Kind::Decode { qc: 5, qm: 13 } },
-    Case { name: "decode-64-3-4", n: 6, kind: Kind::Decode { qc: 3, qm: 4 } },
-    Case { name: "decode-64-5-13", n: 6, kind: Kind::Decode { qc: 5, qm: 13 } },
-    Case { name: "decode-256-3-4", n: 8, kind: Kind::Decode { qc: 3, qm: 4 } },
-    Case { name: "decode-256-5-13", n: 8, kind: Kind::Decode { qc: 5, qm: 13 } },
+static CASES: [Case; 16] = [
+    Case { name: "decode-16-3-4", n: 4, kind: Kind::Decode { qc: 3, qm: 4, m: FULL } },
+    Case { name: "decode-16-5-13", n: 4, kind: Kind::Decode { qc: 5, qm: 13, m: FULL } },
+    Case { name: "decode-64-3-4", n: 6, kind: Kind::Decode { qc: 3, qm: 4, m: FULL } },
+    Case { name: "decode-64-5-13", n: 6, kind: Kind::Decode { qc: 5, qm: 13, m: FULL } },
+    Case { name: "decode-256-3-4", n: 8, kind: Kind::Decode { qc: 3, qm: 4, m: FULL } },
+    Case { name: "decode-256-5-13", n: 8, kind: Kind::Decode { qc: 5, qm: 13, m: FULL } },
+    Case { name: "decode-256-3-4-m4", n: 8, kind: Kind::Decode { qc: 3, qm: 4, m: 4 } },
+    Case { name: "decode-256-3-4-m8", n: 8, kind: Kind::Decode { qc: 3, qm: 4, m: 8 } },
+    Case { name: "decode-256-3-4-m16", n: 8, kind: Kind::Decode { qc: 3, qm: 4, m: 16 } },
+    Case { name: "decode-256-3-4-m32", n: 8, kind: Kind::Decode { qc: 3, qm: 4, m: 32 } },
+    Case { name: "decode-256-5-13-m4", n: 8, kind: Kind::Decode { qc: 5, qm: 13, m: 4 } },
+    Case { name: "decode-256-5-13-m8", n: 8, kind: Kind::Decode { qc: 5, qm: 13, m: 8 } },
+    Case { name: "decode-256-5-13-m16", n: 8, kind: Kind::Decode { qc: 5, qm: 13, m: 16 } },
+    Case { name: "decode-256-5-13-m32", n: 8, kind: Kind::Decode { qc: 5, qm: 13, m: 32 } },
     Case { name: "demap-256-5", n: 8, kind: Kind::Demap { qc: 5 } },
     Case { name: "encode-256", n: 8, kind: Kind::Encode },
 ];
@@ -420,9 +446,9 @@ const FRAMES_COUNTED: usize = 4;
 fn case_inputs(case: &Case, frames: usize) -> Vec<Input> {
     let mut draws = Draws(case.n as u64);
     let make = |_| match case.kind {
-        Kind::Decode { qc, qm } => {
+        Kind::Decode { qc, qm, m } => {
             let code = random_code(&mut draws, case.n, 0);
-            Input::Decode(noisy_decode(&mut draws, code, qc, qm, 0))
+            Input::Decode(noisy_decode(&mut draws, code, [qc, qm, m], 0))
         }
         Kind::Demap { qc } => Input::Demap(noisy_demap(&mut draws, case.n, qc)),
         Kind::Encode => Input::Encode(random_encode(&mut draws, case.n, 0)),
@@ -471,12 +497,12 @@ fn vary_frame(draws: &mut Draws, qc: u32, frame: &mut [u16]) {
 }
 
 /// An input the decoder takes.
-fn any_decode(draws: &mut Draws, n: usize, qc: u32, qm: u32) -> Decode {
+fn any_decode(draws: &mut Draws, n: usize, settings: [u32; 3]) -> Decode {
     let guard = random_guard(draws);
     let mut code = random_code(draws, n, guard);
     vary_map(draws, &mut code);
-    let mut decode = noisy_decode(draws, code, qc, qm, guard);
-    vary_frame(draws, qc, &mut decode.frame);
+    let mut decode = noisy_decode(draws, code, settings, guard);
+    vary_frame(draws, settings[0], &mut decode.frame);
     decode
 }
 
@@ -567,7 +593,7 @@ fn spoil_code(draws: &mut Draws, code: &mut Code) {
 
 /// Puts one mistake into an input of the decoder.
 fn spoil_decode(draws: &mut Draws, d: &mut Decode) {
-    match draws.below(15) {
+    match draws.below(16) {
         0 => d.frame.resize(wrong_length(draws, d.frame.len()), 0),
         1 => d.work_len = wrong_length(draws, d.work_len),
         2 => d.symbols_len = wrong_length(draws, d.symbols_len),
@@ -588,6 +614,7 @@ fn spoil_decode(draws: &mut Draws, d: &mut Decode) {
             }
         }
         11 => d.totals_len = wrong_length(draws, d.totals_len),
+        12 => d.m = draws.pick(&[0, 65, 255, 256, 257, 272, 65552, 1 << 31, u32::MAX]),
         _ => spoil_code(draws, &mut d.code),
     }
 }
@@ -632,7 +659,7 @@ fn spoil_demap(draws: &mut Draws, d: &mut Demap) {
 #[derive(Default)]
 struct Tally {
     inputs: usize,
-    returned: [usize; 12],
+    returned: [usize; 14],
 }
 
 /// What is wrong with an answer by itself: a refusal must change nothing, an answer must clear the
@@ -677,8 +704,8 @@ fn describe(input: &Input) -> String {
             d.base, d.samples.len(), d.top, d.bottom, d.qc, d.llrs_len
         ),
         Input::Decode(d) => format!(
-            "decode: {}, Qc {}, Qm {}, frame {}, work {}, symbols {}, report {}, totals {}",
-            code(&d.code), d.qc, d.qm, d.frame.len(), d.work_len, d.symbols_len, d.report_len, d.totals_len
+            "decode: {}, Qc {}, Qm {}, m {}, frame {}, work {}, symbols {}, report {}, totals {}",
+            code(&d.code), d.qc, d.qm, d.m, d.frame.len(), d.work_len, d.symbols_len, d.report_len, d.totals_len
         ),
     }
 }
@@ -706,13 +733,15 @@ fn agree(input: &Input, guard: usize, tally: &mut Tally) -> Result<(), String> {
     Ok(())
 }
 
-/// Compares on inputs that are taken: all n and all pairs of precisions.
+/// Compares on inputs that are taken: all n and all pairs of precisions, with full check nodes and with others.
 fn compare_taken(draws: &mut Draws, tally: &mut Tally) -> Result<(), String> {
     for n in 1..=8 {
         for qc in 1..=5 {
             for qm in qc..=13 {
                 let guard = random_guard(draws);
-                agree(&Input::Decode(any_decode(draws, n, qc, qm)), guard, tally)?;
+                agree(&Input::Decode(any_decode(draws, n, [qc, qm, FULL])), guard, tally)?;
+                let m = draws.within(1, FULL);
+                agree(&Input::Decode(any_decode(draws, n, [qc, qm, m])), guard, tally)?;
             }
         }
         for _ in 0..30 {
@@ -734,7 +763,8 @@ fn compare_spoilt(draws: &mut Draws, tally: &mut Tally) -> Result<(), String> {
         let n = if round % 20 == 0 { 7 + draws.below(2) } else { 1 + draws.below(5) };
         let qc = draws.within(1, 5);
         let qm = draws.within(qc, 13);
-        let mut decode = any_decode(draws, n, qc, qm);
+        let m = draws.pick(&[1, 16, FULL, FULL]);
+        let mut decode = any_decode(draws, n, [qc, qm, m]);
         let mut encode = any_encode(draws, n);
         let symbols = if round % 20 == 0 { 256 } else { 1 + draws.below(4) };
         let mut demap = any_demap(draws, symbols);
@@ -769,7 +799,7 @@ fn compare_all() -> Result<Tally, String> {
 fn compare() -> bool {
     match compare_all() {
         Ok(tally) => {
-            let refused: Vec<String> = (1..12)
+            let refused: Vec<String> = (1..14)
                 .filter(|&number| tally.returned[number] != 0)
                 .map(|number| format!("{} by {number}", tally.returned[number]))
                 .collect();

@@ -168,44 +168,44 @@ fn magnitude(sample: i8) -> u32 {
 
 /// Decodes a frame of penalties into symbols, the report, the totals and the count of clipped entries.
 pub fn decode(
-    n: usize, map: &[u8], coefs: &[u8], qc: u32, qm: u32, frame: &[u16],
+    n: usize, map: &[u8], coefs: &[u8], qc: u32, qm: u32, m: u32, frame: &[u16],
     work: &mut [u16], symbols: &mut [u8], report: &mut [u16], totals: &mut [u16], count: &mut u32,
 ) -> u8 {
-    decode_by::<false>(n, map, coefs, qc, qm, frame, work, symbols, report, totals, count)
+    decode_by::<false>(n, map, coefs, qc, qm, m, frame, work, symbols, report, totals, count)
 }
 
 /// The same, with the sums of the check nodes in 32 bits.
 pub fn decode_wide(
-    n: usize, map: &[u8], coefs: &[u8], qc: u32, qm: u32, frame: &[u16],
+    n: usize, map: &[u8], coefs: &[u8], qc: u32, qm: u32, m: u32, frame: &[u16],
     work: &mut [u16], symbols: &mut [u8], report: &mut [u16], totals: &mut [u16], count: &mut u32,
 ) -> u8 {
-    decode_by::<true>(n, map, coefs, qc, qm, frame, work, symbols, report, totals, count)
+    decode_by::<true>(n, map, coefs, qc, qm, m, frame, work, symbols, report, totals, count)
 }
 
 /// Decodes with the sums of the check nodes in 32 bits if WIDE, else in 16.
 fn decode_by<const WIDE: bool>(
-    n: usize, map: &[u8], coefs: &[u8], qc: u32, qm: u32, frame: &[u16],
+    n: usize, map: &[u8], coefs: &[u8], qc: u32, qm: u32, m: u32, frame: &[u16],
     work: &mut [u16], symbols: &mut [u8], report: &mut [u16], totals: &mut [u16], count: &mut u32,
 ) -> u8 {
     let lengths = [frame.len(), work.len(), symbols.len(), report.len(), totals.len()];
-    let refusal = decode_refusal(n, map, coefs, qc, qm, frame, lengths);
+    let refusal = decode_refusal(n, map, coefs, [qc, qm, m], frame, lengths);
     if refusal != 0 {
         return refusal;
     }
     let (vectors, word) = work.split_at_mut(64 << n);
     let cap = (1 << qm) - 1;
     let report = report.as_chunks_mut().0;
-    let mut decoder = Decoder { map, coefs, cap, symbols, report, totals, count: 0 };
+    let mut decoder = Decoder { map, coefs, cap, m: m as usize, symbols, report, totals, count: 0 };
     decoder.part::<WIDE>(1, 0, 0, frame.as_chunks().0, vectors.as_chunks_mut().0, word);
     *count = decoder.count;
     work.fill(0);
     0
 }
 
-/// The refusals of the decoder: 1, 2, 3, 4, 5, 6, 8, 9. The lengths are those of frame, work
-/// buffer, symbols, report and totals.
+/// The refusals of the decoder: 1, 2, 3, 13, 4, 5, 6, 8, 9. The settings are Qc, Qm and m; the lengths
+/// are those of frame, work buffer, symbols, report and totals.
 fn decode_refusal(
-    n: usize, map: &[u8], coefs: &[u8], qc: u32, qm: u32, frame: &[u16], lengths: [usize; 5],
+    n: usize, map: &[u8], coefs: &[u8], [qc, qm, m]: [u32; 3], frame: &[u16], lengths: [usize; 5],
 ) -> u8 {
     if !(1..=8).contains(&n) {
         return 1;
@@ -216,6 +216,9 @@ fn decode_refusal(
     }
     if !(1..=5).contains(&qc) || !(qc..=13).contains(&qm) {
         return 3;
+    }
+    if !(1..=64).contains(&m) {
+        return 13;
     }
     let refusal = code_refusal(map, coefs);
     if refusal != 0 {
@@ -235,6 +238,7 @@ struct Decoder<'a> {
     map: &'a [u8],
     coefs: &'a [u8],
     cap: u16,
+    m: usize,
     symbols: &'a mut [u8],
     report: &'a mut [Vector],
     totals: &'a mut [u16],
@@ -262,7 +266,9 @@ impl Decoder<'_> {
         let (own, rest) = spare.split_at_mut(half);
         let (left, right) = word.split_at_mut(half);
         for t in 0..half {
-            if WIDE {
+            if self.m < 64 {
+                check_node_short(&thetas[t], &phis[t], hs[t], self.m, &mut own[t]);
+            } else if WIDE {
                 check_node_wide(&thetas[t], &phis[t], hs[t], &mut own[t]);
             } else {
                 check_node(&thetas[t], &phis[t], hs[t], &mut own[t]);
@@ -333,6 +339,19 @@ fn check_node_wide(theta: &Vector, phi: &Vector, h: u8, out: &mut Vector) {
     }
 }
 
+/// The same over the m values c whose penalty at h ⊙ c is smallest, ties to the smaller c.
+fn check_node_short(theta: &Vector, phi: &Vector, h: u8, m: usize, out: &mut Vector) {
+    let phi = reordered(phi, h);
+    let mut values: [usize; 64] = std::array::from_fn(|c| c);
+    values.sort_unstable_by_key(|&c| (phi[c], c));
+    out.fill(u16::MAX);
+    for &c in &values[..m] {
+        for b in 0..64 {
+            out[b] = out[b].min(theta[b ^ c] + phi[c]);
+        }
+    }
+}
+
 /// Gives c the sum of θ's penalty at u ⊕ c and φ's at h ⊙ c, less the least sum, clipped at the
 /// cap. Returns how many entries were clipped, and the least sum.
 fn variable_node(theta: &Vector, phi: &Vector, h: u8, u: u16, cap: u16, out: &mut Vector) -> (u32, u16) {
@@ -372,11 +391,11 @@ mod tests {
     }
 
     /// Decodes a frame that must be taken.
-    fn decoded(n: usize, map: &[u8], coefs: &[u8], q: (u32, u32), frame: &[u16]) -> Decoded {
+    fn decoded(n: usize, map: &[u8], coefs: &[u8], q: (u32, u32, u32), frame: &[u16]) -> Decoded {
         let mut work = vec![9; 65 << n];
         let (mut symbols, mut report, mut totals, mut count) = (vec![9; 1 << n], vec![9; 64 << n], vec![9; 1 << n], 9);
         let code = decode(
-            n, map, coefs, q.0, q.1, frame, &mut work, &mut symbols, &mut report, &mut totals, &mut count,
+            n, map, coefs, q.0, q.1, q.2, frame, &mut work, &mut symbols, &mut report, &mut totals, &mut count,
         );
         assert_eq!(code, 0);
         assert!(work.iter().all(|&entry| entry == 0));
@@ -438,7 +457,7 @@ mod tests {
     #[test]
     fn ties() {
         let frame = [zero_at(5, 1), zero_at(4, 1)].concat();
-        let Decoded { symbols, report, totals, count } = decoded(1, &[1, 0], &[1], (5, 13), &frame);
+        let Decoded { symbols, report, totals, count } = decoded(1, &[1, 0], &[1], (5, 13, 64), &frame);
         assert_eq!((symbols, report[0], totals, count), (vec![0, 4], 1, vec![0, 1], 0));
         for c in 0..64 {
             assert_eq!(report[64 + c], if c == 4 || c == 5 { 0 } else { 1 });
@@ -448,12 +467,26 @@ mod tests {
     #[test]
     fn program_frame() {
         let frame = [zero_at(33, 3), zero_at(1, 3)].concat();
-        for (q, other, clipped) in [((5, 13), 6, 0), ((2, 2), 3, 63)] {
+        for (q, other, clipped) in [((5, 13, 64), 6, 0), ((2, 2, 64), 3, 63)] {
             let Decoded { symbols, report, totals, count } = decoded(1, &[1, 0], &[2], q, &frame);
             assert_eq!((symbols, totals, count), (vec![0, 33], vec![0, 0], clipped));
             assert_eq!(report[..64].to_vec(), zero_at(0, 3));
             let rest = (0..64).filter(|&c| c != 33).map(|c| report[64 + c]).min();
             assert_eq!((report[64 + 33], rest), (0, Some(other)));
+        }
+    }
+
+    /// N = 2, coefficient 1, φ's penalties 0, 1, 1 and then 2: with m = 2 the values 0 and 1 are tried, and not 2,
+    /// which has the same penalty as 1 and is larger.
+    #[test]
+    fn two_candidates() {
+        let mut phi = vec![2; 64];
+        phi[..3].copy_from_slice(&[0, 1, 1]);
+        let frame = [zero_at(9, 7), phi].concat();
+        for (m, at_11) in [(1, 7), (2, 7), (3, 1), (64, 1)] {
+            let Decoded { report, .. } = decoded(1, &[1, 0], &[1], (3, 13, m), &frame);
+            let at_8 = if m == 1 { 7 } else { 1 };
+            assert_eq!((report[9], report[8], report[11]), (0, at_8, at_11));
         }
     }
 
@@ -469,7 +502,7 @@ mod tests {
             let least = *vector.iter().min().unwrap();
             vector.iter_mut().for_each(|entry| *entry -= least);
         }
-        let Decoded { symbols, report, totals, count } = decoded(2, &map, &coefs, (5, 13), &frame);
+        let Decoded { symbols, report, totals, count } = decoded(2, &map, &coefs, (5, 13, 64), &frame);
         assert_eq!(count, 0);
         let mut with_value = vec![u16::MAX; 256];
         for number in 0..1usize << 24 {

@@ -52,6 +52,9 @@ SYMBOL_7 = """    if not symbols_are_valid(message):
 PRECISION_3 = """    if not precisions_are_valid(Qc, Qm):
         return REFUSED_PRECISION
 """
+M_13 = """    if not m_is_valid(m):
+        return REFUSED_M
+"""
 PENALTY_8 = """    if not penalties_are_valid(frame, Qc):
         return REFUSED_PENALTY
 """
@@ -129,6 +132,9 @@ LINK_LENGTH_2 = """    if decoded_length != K:
 LINK_3 = """    if not precisions_are_valid(Qc, Qm):
         return 3
 """
+LINK_13 = """    if not m_is_valid(m):
+        return 13
+"""
 LINK_4 = """    if not map_bytes_are_valid(map):
         return 4
 """
@@ -188,13 +194,17 @@ ORDERS = [
     order("weighing: 11 before 10", CHIPS, BASE_10, WEIGH_11),
     order("decoder: 3 before 2", DECODING, REPORT_LENGTH_2,
           TOTALS_2 + PRECISION_3),
-    order("decoder: 4 before 3", DECODING, PRECISION_3, MAP_4),
+    order("decoder: 13 before 3", DECODING, PRECISION_3, M_13),
+    order("decoder: 4 before 13", DECODING, M_13, MAP_4),
+    order("decoder: 4 before 3", DECODING, PRECISION_3 + M_13, MAP_4),
     order("decoder: 5 before 4", DECODING, MAP_4, NONE_5),
     order("decoder: 6 before 5", DECODING, NONE_5, COEFFICIENT_6),
     order("decoder: 8 before 6", DECODING, COEFFICIENT_6, PENALTY_8),
     order("decoder: 9 before 8", DECODING, PENALTY_8, NO_ZERO_9),
     order("round trip: 3 before 2", LINKING, LINK_LENGTH_2, LINK_3),
-    order("round trip: 4 before 3", LINKING, LINK_3, LINK_4),
+    order("round trip: 13 before 3", LINKING, LINK_3, LINK_13),
+    order("round trip: 4 before 13", LINKING, LINK_13, LINK_4),
+    order("round trip: 4 before 3", LINKING, LINK_3 + LINK_13, LINK_4),
     order("round trip: 5 before 4", LINKING, LINK_4, LINK_5),
     order("round trip: 6 before 5", LINKING, LINK_5, LINK_6),
     order("round trip: 7 before 6", LINKING, LINK_6, LINK_7),
@@ -569,37 +579,31 @@ LOST = [
 
 DECODER = [
     ("check node: no coefficient", DECODING,
-     "phi_part = [at_phi[gf_product(h, c)]", "phi_part = [at_phi[c]"),
+     "(c, at_phi[PRODUCTS[h][c]]) for", "(c, at_phi[c]) for"),
     ("check node: h on b too", DECODING,
-     "min(at_theta[gf_sum(b, c)] + phi_part[c]",
-     "min(at_theta[gf_sum(b, gf_product(h, c))] + phi_part[c]"),
+     "at_theta[b ^ c] + penalty",
+     "at_theta[b ^ PRODUCTS[h][c]] + penalty"),
     ("check node: the larger in place of the sum", DECODING,
-     "min(at_theta[gf_sum(b, c)] + phi_part[c]",
-     "min(max(at_theta[gf_sum(b, c)], phi_part[c])"),
+     "at_theta[b ^ c] + penalty", "max(at_theta[b ^ c], penalty)"),
     ("check node: c = 0 is left out", DECODING,
-     """phi_part[c]
-                         for c in range(FIELD_SIZE)))""",
-     """phi_part[c]
-                         for c in range(1, FIELD_SIZE)))"""),
+     "for c, penalty in phi_part]",
+     "for c, penalty in phi_part if c > 0 or len(tried) == 1]"),
     ("check node: c = 63 is left out", DECODING,
-     """phi_part[c]
-                         for c in range(FIELD_SIZE)))""",
-     """phi_part[c]
-                         for c in range(FIELD_SIZE - 1)))"""),
+     "for c, penalty in phi_part]",
+     "for c, penalty in phi_part if c < 63 or len(tried) == 1]"),
     ("check node: capped at 2^Qc - 1 of 5", DECODING,
-     "min(at_theta[gf_sum(b, c)] + phi_part[c]",
-     "min(min(31, at_theta[gf_sum(b, c)] + phi_part[c])"),
+     "at_theta[b ^ c] + penalty", "min(31, at_theta[b ^ c] + penalty)"),
     ("variable node: u is not used", DECODING, "at_theta[gf_sum(u, c)]",
      "at_theta[c]"),
     ("variable node: no coefficient", DECODING,
-     "+ at_phi[gf_product(h, c)])", "+ at_phi[c])"),
+     "+ at_phi[PRODUCTS[h][c]])", "+ at_phi[c])"),
     ("variable node: h divides", DECODING,
-     "sums.append(at_theta[gf_sum(u, c)] + at_phi[gf_product(h, c)])",
-     "sums.append(at_theta[gf_sum(u, gf_product(h, c))] + at_phi[c])"),
+     "sums.append(at_theta[gf_sum(u, c)] + at_phi[PRODUCTS[h][c]])",
+     "sums.append(at_theta[gf_sum(u, PRODUCTS[h][c])] + at_phi[c])"),
     ("variable node: clipped before the least is subtracted", DECODING,
-     "sums.append(at_theta[gf_sum(u, c)] + at_phi[gf_product(h, c)])",
+     "sums.append(at_theta[gf_sum(u, c)] + at_phi[PRODUCTS[h][c]])",
      "sums.append(min(2 ** Qm - 1,\n"
-     "            at_theta[gf_sum(u, c)] + at_phi[gf_product(h, c)]))"),
+     "            at_theta[gf_sum(u, c)] + at_phi[PRODUCTS[h][c]]))"),
     ("variable node: the least is not subtracted", DECODING,
      "penalty = sums[c] - least", "penalty = sums[c]"),
     ("variable node: not clipped, only counted", DECODING,
@@ -693,6 +697,78 @@ DECODER = [
 ]
 
 
+# --- Shorter check nodes -----------------------------------------------------
+
+IN_ORDER = "key=lambda c: (at_phi[PRODUCTS[h][c]], c))"
+FIRST_M = "    return in_order[:m]\n"
+NODE = "held[l][theta] = node(h, at_theta, at_phi)"
+VALID_M = "    return 1 <= m <= FIELD_SIZE\n"
+
+
+def in_order_by(name, key):
+    """A variant in which the values are tried in another order."""
+    return (name, DECODING, IN_ORDER, "key=lambda c: %s)" % key)
+
+
+def tried_by(name, values):
+    """A variant in which other values are tried."""
+    return (name, DECODING, FIRST_M, "    return %s\n" % values)
+
+
+def full_where(name, condition):
+    """A variant in which some check nodes follow the full rule."""
+    return (name, DECODING, NODE,
+            "held[l][theta] = (check_node if %s\n"
+            "                else node)(h, at_theta, at_phi)" % condition)
+
+
+def valid_where(name, condition):
+    """A variant in which other m are taken."""
+    return (name, DECODING, VALID_M, "    return %s\n" % condition)
+
+
+SHORTER = [
+    in_order_by("tried: ties to the larger c", "(at_phi[PRODUCTS[h][c]], -c)"),
+    in_order_by("tried: ties by h * c",
+                "(at_phi[PRODUCTS[h][c]], PRODUCTS[h][c])"),
+    in_order_by("tried: phi's penalty counted at c", "(at_phi[c], c)"),
+    in_order_by("tried: the largest penalties",
+                "(-at_phi[PRODUCTS[h][c]], c)"),
+    in_order_by("tried: the first values", "c"),
+    tried_by("tried: m - 1 values", "in_order[:max(m - 1, 1)]"),
+    tried_by("tried: m + 1 values", "in_order[:m + 1]"),
+    tried_by("tried: all values that are as good as the last",
+             "[c for c in in_order if at_phi[PRODUCTS[h][c]]\n"
+             "            <= at_phi[PRODUCTS[h][in_order[m - 1]]]]"),
+    tried_by("tried: only values better than the next",
+             "[c for c in in_order[:m] if m == 64 or\n"
+             "            at_phi[PRODUCTS[h][c]] < "
+             "at_phi[PRODUCTS[h][in_order[m]]]] or in_order[:1]"),
+    tried_by("tried: all 64", "in_order"),
+    tried_by("tried: 63 of 64", "in_order[:min(m, 63)]"),
+    tried_by("tried: an even number", "in_order[:max(m // 2 * 2, 1)]"),
+    tried_by("tried: a multiple of four", "in_order[:(m + 3) // 4 * 4]"),
+    full_where("the mode is ignored in the second half",
+               "theta >= 2 ** n // 2"),
+    full_where("the mode is ignored in the first half", "theta < 2 ** n // 2"),
+    full_where("the mode is ignored in layer 1", "l == 1"),
+    full_where("the mode is ignored in layer n", "l == n"),
+    full_where("the mode is ignored at coefficient 1", "h == 1"),
+    full_where("the mode is ignored at other coefficients", "h != 1"),
+    valid_where("an m of 0 is taken", "m <= FIELD_SIZE"),
+    valid_where("an m of 65 is taken", "1 <= m <= FIELD_SIZE + 1"),
+    valid_where("an m of 64 is refused", "1 <= m < FIELD_SIZE"),
+    valid_where("an m of 1 is refused", "1 < m <= FIELD_SIZE"),
+    valid_where("of m a byte counts", "1 <= m % 256 <= FIELD_SIZE"),
+    valid_where("of m 16 bits count", "1 <= m % 65536 <= FIELD_SIZE"),
+    valid_where("of m 31 bits count", "1 <= m % 2 ** 31 <= FIELD_SIZE"),
+    ("decoder: m is not tried", DECODING, M_13, ""),
+    ("decoder: 3 for m", DECODING, M_13, M_13.replace("REFUSED_M", "3")),
+    ("round trip: m is not tried", LINKING, LINK_13, ""),
+    ("round trip: 3 for m", LINKING, LINK_13, LINK_13.replace("13", "3")),
+]
+
+
 # --- Round trip --------------------------------------------------------------
 
 TRIP = [
@@ -733,7 +809,8 @@ TRIP = [
 ADD_TAKEN = "            add_taken(n, l, phi, least, totals)\n"
 ADD_PLACE = "        totals[place] = totals[place] + least\n"
 GIVEN = "    return (given, clipped, least)\n"
-DECODED = "    return (ACCEPTED, symbols, report, totals, count)\n"
+DECODED = ("    return (ACCEPTED,) + decoded(n, map, coefs, Qm, frame, "
+           "check_node_of(m))\n")
 REFUSED_DECODE = "        return (refusal, None, None, None, None)\n"
 DECODE_1 = """    if not n_is_valid(n):
         return REFUSED_N
@@ -788,7 +865,11 @@ def taken_off(name, amount):
 def handed_out(name, totals):
     """A variant in which other totals are answered in the end."""
     return (name, DECODING, DECODED,
-            "    totals = %s\n" % totals + DECODED)
+            "    N = 2 ** n\n"
+            "    symbols, report, totals, count = decoded(\n"
+            "        n, map, coefs, Qm, frame, check_node_of(m))\n"
+            "    totals = %s\n"
+            "    return (ACCEPTED, symbols, report, totals, count)\n" % totals)
 
 
 def left_by(name, totals):
@@ -966,7 +1047,8 @@ TOTALS = [
     handed_out("totals: all 0 where an entry was clipped",
                "[0] * N if count > 0 else totals"),
     handed_out("totals: the least totals where an entry was clipped",
-               "decode(n, map, coefs, 5, 13, frame, 65 * N, N, 64 * N, N)[3]"
+               "decode(n, map, coefs, 5, 13, m, frame, 65 * N, N,\n"
+               "                    64 * N, N)[3]"
                "\\\n        if Qm < 13 else totals"),
     handed_out("totals: the last one is 0", "totals[:-1] + [0]"),
     handed_out("totals: the first is 1", "[1] + totals[1:]"),
@@ -1017,7 +1099,7 @@ TOTALS = [
      TOTALS_2.replace("REFUSED_LENGTH", "12")),
     order("decoder: the totals' 2 after 3", DECODING, TOTALS_2, PRECISION_3),
     order("decoder: the totals' 2 after 9", DECODING, TOTALS_2,
-          PRECISION_3 + MAP_4 + NONE_5 + COEFFICIENT_6 + PENALTY_8
+          PRECISION_3 + M_13 + MAP_4 + NONE_5 + COEFFICIENT_6 + PENALTY_8
           + NO_ZERO_9),
     ("decoder: the totals' 2 before 1", DECODING, DECODE_1,
      "    if totals_length != 2 ** min(n, 9):\n"
@@ -1045,7 +1127,7 @@ TOTALS = [
     order("round trip: the totals' 2 after 3", LINKING, LINK_TOTALS_2,
           LINK_LENGTH_2 + LINK_3),
     order("round trip: the totals' 2 after 19", LINKING, LINK_TOTALS_2,
-          LINK_LENGTH_2 + LINK_3 + LINK_4 + LINK_5 + LINK_6 + LINK_7
+          LINK_LENGTH_2 + LINK_3 + LINK_13 + LINK_4 + LINK_5 + LINK_6 + LINK_7
           + BASE_10 + LINK_11 + LINK_19),
     ("round trip: the totals' 2 before 1", LINKING, LINK_1,
      "    if totals_length != 2 ** min(n, 9):\n        return 2\n" + LINK_1),
@@ -1573,8 +1655,8 @@ CALL = [
      "for later in range(n, l, -1):", "for later in range(l + 1, n + 1):"),
 ]
 
-VARIANTS = (ENCODER + CHIP + LOST + DECODER + TRIP + TOTALS + READER + WRITER
-            + PRODUCT + ORDERS + CALL)
+VARIANTS = (ENCODER + CHIP + LOST + DECODER + SHORTER + TRIP + TOTALS + READER
+            + WRITER + PRODUCT + ORDERS + CALL)
 
 
 # --- One variant -------------------------------------------------------------

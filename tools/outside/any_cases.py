@@ -3,7 +3,8 @@
 Each number and slice of a call is now and then another one: any entries up to
 the largest, any length up to the capacity, any number.  What is left is as in
 the calls of the other modules, so that many numbers of refusals occur.  The
-totals are left as they are; totals_cases.py has other lengths of them.
+totals and m are left as they are; totals_cases.py has other lengths of them,
+and shorter_cases.py other m.
 """
 
 import chip_cases
@@ -70,7 +71,8 @@ def changed(generator, letter, call, mode):
     1 numbers and lengths, in mode 2 all; at least one slice that is not lent,
     and one length."""
     call = dict(call)
-    names = [name for name in records.field_names(letter) if name != "totals"]
+    names = [name for name in records.field_names(letter)
+             if name not in ("totals", "m")]
     slices = [name for name in names if name in records.BUFFERS]
     lent = records.lent_names(letter)
     content = pick(generator, [name for name in slices if name not in lent])

@@ -86,8 +86,8 @@ def decode(given):
     after it."""
     refusal, symbols, report, totals, count = decoding.decode(
         given["n"], given["map"], given["coefs"], given["Qc"], given["Qm"],
-        given["frame"], len(given["work"]), len(given["symbols"]),
-        len(given["report"]), len(given["totals"]))
+        given["m"], given["frame"], len(given["work"]),
+        len(given["symbols"]), len(given["report"]), len(given["totals"]))
     if refusal != scms.ACCEPTED:
         return [refusal], left_in(["symbols", "report", "totals"],
                                   [symbols, report, totals])
@@ -102,9 +102,9 @@ def round_trip(given):
     refusal, answer = linking.link(
         given["n"], given["map"], given["coefs"], given["message"],
         given["base"], given["amplitude"], given["top"], given["bottom"],
-        given["Qc"], given["Qm"], len(given["samples"]), len(given["frame"]),
-        len(given["work"]), len(given["symbols"]), len(given["report"]),
-        len(given["totals"]), len(given["text"]))
+        given["Qc"], given["Qm"], given["m"], len(given["samples"]),
+        len(given["frame"]), len(given["work"]), len(given["symbols"]),
+        len(given["report"]), len(given["totals"]), len(given["text"]))
     if answer is None:
         return [refusal], {}
     return [refusal, answer.count], {
@@ -184,8 +184,8 @@ def listing_refusal(n, map, coefs, frame, text_length):
     """The lowest number that fits the call of a whole listing, or 0."""
     N = 2 ** n if scms.n_is_valid(n) else 1
     refusal = decoding.decode_refusal(
-        n, map, coefs, reading.PROGRAM_QC, reading.PROGRAM_QM, frame, 65 * N,
-        N, 64 * N, N)
+        n, map, coefs, reading.PROGRAM_QC, reading.PROGRAM_QM,
+        reading.PROGRAM_M, frame, 65 * N, N, 64 * N, N)
     if refusal != scms.REFUSED_N and text_length != 21 * N + 6:
         return scms.REFUSED_LENGTH
     return refusal

@@ -1,6 +1,6 @@
 """Records of encoding, spreading, a channel, weighing and decoding one after
 the other, for every pair of Qc and Qm that is not refused and every n from 1
-to 8: 440 cases.
+to 8, with m = 64: 440 cases.
 
 In each a code, a message, a base, noise and a gain are drawn; each call gets
 what the one before left.
@@ -85,7 +85,7 @@ def case_calls(generator, n, Qc, Qm):
                    samples=lent(generator, "samples", 64 * size))
     weigh = dict(base=base, samples=same(64 * size), top=top, bottom=bottom,
                  Qc=Qc, frame=lent(generator, "frame", 64 * size))
-    decode = dict(n=n, map=map, coefs=coefs, Qc=Qc, Qm=Qm,
+    decode = dict(n=n, map=map, coefs=coefs, Qc=Qc, Qm=Qm, m=64,
                   frame=same(64 * size),
                   work=lent(generator, "work", 65 * size),
                   symbols=lent(generator, "symbols", size),

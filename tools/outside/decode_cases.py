@@ -1,5 +1,5 @@
-"""Records of calls of the decoder: 60 that are taken, 78 with one damage, 240
-with up to two, and 16 frames of words sent without noise."""
+"""Records of calls of the decoder with m = 64: 60 that are taken, 78 with one
+damage, 240 with up to two, and 16 frames of words sent without noise."""
 
 import records
 
@@ -54,6 +54,7 @@ def code_call(generator, n, map, coefs, Qc, Qm, frame):
         coefs=coefs,
         Qc=Qc,
         Qm=Qm,
+        m=64,
         frame=frame,
         work=lent(generator, "work", 65 * 2 ** n),
         symbols=lent(generator, "symbols", 2 ** n),

@@ -1,5 +1,5 @@
-"""Records of round trips without noise: 170 that are taken, 97 with one damage
-or none, and 171 with two."""
+"""Records of round trips without noise with m = 64: 170 that are taken, 97
+with one damage or none, and 171 with two."""
 
 import records
 
@@ -82,6 +82,7 @@ def draw_call(generator, n):
         bottom=bottom,
         Qc=Qc,
         Qm=Qm,
+        m=64,
         samples=lent(generator, "samples", 64 * size),
         frame=lent(generator, "frame", 64 * size),
         work=lent(generator, "work", 65 * size),

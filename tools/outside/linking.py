@@ -6,13 +6,13 @@ of scms.py, chips.py and decoding.py.
 Open points in the paper, and the reading chosen for each:
 
  1. The paper has no call that does the whole chain, so its numbers are not
-    listed. It has the inputs of 1, 2, 3, 4, 5, 6, 7, 10 and 11, tried in that
-    order. 8 and 9 speak of penalties given to a call; here the penalties are
-    made by weighing, which gives none too large and a zero in each vector.
-    12 speaks of files, and there are none.
+    listed. It has the inputs of 1, 2, 3, 13, 4, 5, 6, 7, 10 and 11, tried in
+    that order. 8 and 9 speak of penalties given to a call; here the penalties
+    are made by weighing, which gives none too large and a zero in each
+    vector. 12 speaks of files, and there are none.
  2. The amplitude has no number in the table. Any value outside 1 to 127, also
-    0 and values below 0, gives 19. It is ordered with the table by its
-    number, so it is returned only where nothing else fits.
+    0 and values below 0, gives 19. It comes after all of the table, so it is
+    returned only where nothing else fits.
  3. The needed lengths are not gathered in one place. Each must be met
     exactly: map N, coefficients n * N/2, message K, samples 64 * N, frame
     64 * N, work buffer 65 * N, symbols N, report 64 * N, totals N, decoded
@@ -65,6 +65,9 @@ Open points in the paper, and the reading chosen for each:
     least that weighing subtracts is no part of it; that of a sent symbol is 0
     here anyway. Where the premise holds each total is 0, as the sent word has
     penalty 0 at each place.
+21. Request 05 keeps the noiseless statement for all m. The chain takes the
+    decoder's m and hands it on. That each total is 0 where the premise holds
+    is read for all m too: the one value with phi's penalty 0 is always tried.
 """
 
 import collections
@@ -83,6 +86,7 @@ from decoding import (
     decode,
     decode_refusal,
     listing,
+    m_is_valid,
     precisions_are_valid,
     spike,
 )
@@ -137,10 +141,14 @@ def premise_holds(base, amplitude, top, bottom, Qc, codeword):
 
 # --- Refusals ----------------------------------------------------------------
 
+# The numbers of the call of the whole chain in the order in which they count.
+ORDER = [1, 2, 3, 13, 4, 5, 6, 7, 10, 11, 19]
+
+
 def link_refusal(n, map, coefs, message, base, amplitude, top, bottom, Qc, Qm,
-                 samples_length, frame_length, work_length, symbols_length,
+                 m, samples_length, frame_length, work_length, symbols_length,
                  report_length, totals_length, decoded_length):
-    """The lowest number that fits the call of the whole chain, or 0."""
+    """The first number that fits the call of the whole chain, or 0."""
     if not n_is_valid(n):
         return 1
     N = 2 ** n
@@ -167,6 +175,8 @@ def link_refusal(n, map, coefs, message, base, amplitude, top, bottom, Qc, Qm,
         return 2
     if not precisions_are_valid(Qc, Qm):
         return 3
+    if not m_is_valid(m):
+        return 13
     if not map_bytes_are_valid(map):
         return 4
     if K == 0:
@@ -192,12 +202,12 @@ Answer = collections.namedtuple(
                "message"])
 
 
-def link(n, map, coefs, message, base, amplitude, top, bottom, Qc, Qm,
+def link(n, map, coefs, message, base, amplitude, top, bottom, Qc, Qm, m,
          samples_length, frame_length, work_length, symbols_length,
          report_length, totals_length, decoded_length):
     """The whole chain: (0, the namedtuple Answer), or (refusal, None)."""
     refusal = link_refusal(n, map, coefs, message, base, amplitude, top,
-                           bottom, Qc, Qm, samples_length, frame_length,
+                           bottom, Qc, Qm, m, samples_length, frame_length,
                            work_length, symbols_length, report_length,
                            totals_length, decoded_length)
     if refusal != 0:
@@ -211,7 +221,7 @@ def link(n, map, coefs, message, base, amplitude, top, bottom, Qc, Qm,
     number, frame = weigh(base, samples, top, bottom, Qc, frame_length)
     assert number == 0
     number, symbols, report, totals, count = decode(
-        n, map, coefs, Qc, Qm, frame, work_length, symbols_length,
+        n, map, coefs, Qc, Qm, m, frame, work_length, symbols_length,
         report_length, totals_length)
     assert number == 0
     decoded = message_of(map, symbols)
@@ -228,12 +238,13 @@ def link(n, map, coefs, message, base, amplitude, top, bottom, Qc, Qm,
 
 # --- Worked rows -------------------------------------------------------------
 
-def arguments(n, map, coefs, message, base, amplitude, top, bottom, Qc, Qm):
+def arguments(n, map, coefs, message, base, amplitude, top, bottom, Qc, Qm,
+              m=64):
     """The arguments of the call by name, with buffers of the needed lengths."""
     N = 2 ** n
     K = message_places(map)
     return dict(n=n, map=map, coefs=coefs, message=message, base=base,
-                amplitude=amplitude, top=top, bottom=bottom, Qc=Qc, Qm=Qm,
+                amplitude=amplitude, top=top, bottom=bottom, Qc=Qc, Qm=Qm, m=m,
                 samples_length=64 * N, frame_length=64 * N,
                 work_length=65 * N, symbols_length=N, report_length=64 * N,
                 totals_length=N, decoded_length=K)
@@ -270,9 +281,9 @@ def test_worked_rows():
             ([0, 0, 0, 0], [1, 1, 1, 1], [0, 1, 2, 3], [0, 1, 2, 3],
              [0, 2, 1, 3]),
             ([1, 1, 1, 0], [2, 1, 1, 1], [7], [0, 0, 0, 7], [7, 7, 14, 7])):
-        for Qm in (3, 13):
+        for Qm, m in ((3, 64), (13, 64), (3, 1), (13, 1), (3, 2)):
             number, answer = link(**arguments(2, map, coefs, message, 1, 10,
-                                              1, 4, 3, Qm))
+                                              1, 4, 3, Qm, m))
             assert number == 0
             samples = []
             frame = []
@@ -400,8 +411,9 @@ def random_arguments(draw, n):
     top, bottom = random_gain(draw, base, amplitude)
     Qc = draw.randrange(1, 6)
     Qm = draw.choice([Qc, draw.randrange(Qc, 14), 13])
+    m = draw.choice([1, 64, draw.randrange(1, 8), draw.randrange(1, 65)])
     return arguments(n, map, coefs, message, base, amplitude, top, bottom, Qc,
-                     Qm)
+                     Qm, m)
 
 
 def test_random_case(given, tally):
@@ -454,8 +466,14 @@ def test_random_case(given, tally):
                 tally["premise holds, Qm = Qc and clipped"] += 1
         if raw * given["top"] // given["bottom"] == 1:
             tally["premise holds, least penalty of a wrong symbol 1"] += 1
+        if given["m"] == 1:
+            tally["premise holds, m = 1"] += 1
+        if 1 < given["m"] < 64:
+            tally["premise holds, m from 2 to 63"] += 1
     else:
         tally["premise fails"] += 1
+        if link(**dict(given, m=65 - given["m"])) != (0, answer):
+            tally["premise fails, another m another answer"] += 1
         if max(answer.totals) > 0:
             tally["premise fails, a total above 0"] += 1
         if max(answer.frame) == 0:
@@ -470,12 +488,16 @@ def test_random_case(given, tally):
             tally["premise fails, other message"] += 1
             if max(answer.frame) > 0:
                 tally["premise fails, other message, frame not all zeros"] += 1
-            # Up to the first symbol that differs the sent one has penalty 0,
-            # so only a smaller value can have been taken before it.
+            # With m = 64, up to the first symbol that differs the sent one
+            # has penalty 0, so only a smaller value can have been taken before
+            # it.  With a lower m what makes its penalty 0 need not be tried.
             place = 0
             while answer.symbols[place] == u[place]:
                 place = place + 1
-            assert answer.symbols[place] < u[place]
+            if given["m"] == 64:
+                assert answer.symbols[place] < u[place]
+            elif answer.symbols[place] > u[place]:
+                tally["premise fails, a larger symbol at a lower m"] += 1
 
 
 def test_random_cases():
@@ -489,6 +511,9 @@ def test_random_cases():
                  "premise holds, Qm = Qc",
                  "premise holds, Qm = Qc and clipped",
                  "premise holds, least penalty of a wrong symbol 1",
+                 "premise holds, m = 1", "premise holds, m from 2 to 63",
+                 "premise fails, another m another answer",
+                 "premise fails, a larger symbol at a lower m",
                  "premise fails", "premise fails, a total above 0",
                  "premise fails, clipped",
                  "premise fails, same message",
@@ -584,6 +609,8 @@ def all_faults():
     faults.append((3, value_fault("Qc", 6)))
     faults.append((3, value_fault("Qm", 2)))
     faults.append((3, value_fault("Qm", 14)))
+    for m in (0, 65, 256 + 16, 2 ** 32 + 16, 2 ** 64 - 1):
+        faults.append((13, value_fault("m", m)))
     faults.append((6, entry_fault("coefs", 0, 0)))
     faults.append((6, entry_fault("coefs", 3, 0)))
     faults.append((6, entry_fault("coefs", 1, 64)))
@@ -615,10 +642,10 @@ def all_faults():
 
 
 def refusal_of_parts(n, map, coefs, message, base, amplitude, top, bottom, Qc,
-                     Qm, samples_length, frame_length, work_length,
+                     Qm, m, samples_length, frame_length, work_length,
                      symbols_length, report_length, totals_length,
                      decoded_length):
-    """The least refusal of the calls of the chain and of what only it has."""
+    """The first refusal of the calls of the chain and of what only it has."""
     if n < 1 or n > 8:
         return 1
     N = 2 ** n
@@ -627,8 +654,9 @@ def refusal_of_parts(n, map, coefs, message, base, amplitude, top, bottom, Qc,
     numbers.append(spread_refusal(base, [0] * N, N))
     numbers.append(weigh_refusal(base, [0] * samples_length, top, bottom, Qc,
                                  frame_length))
-    numbers.append(decode_refusal(n, map, coefs, Qc, Qm, [0] * frame_length,
-                                  work_length, symbols_length, report_length,
+    numbers.append(decode_refusal(n, map, coefs, Qc, Qm, m,
+                                  [0] * frame_length, work_length,
+                                  symbols_length, report_length,
                                   totals_length))
     if samples_length != 64 * N:
         numbers.append(2)
@@ -639,7 +667,12 @@ def refusal_of_parts(n, map, coefs, message, base, amplitude, top, bottom, Qc,
     fitting = [number for number in numbers if number != 0]
     if fitting == []:
         return 0
-    return min(fitting)
+    return first_of(fitting)
+
+
+def first_of(numbers):
+    """The number that counts before all others of these."""
+    return min(numbers, key=ORDER.index)
 
 
 def refusal_with(faults):
@@ -656,7 +689,7 @@ def refusal_with(faults):
 
 def test_refusals():
     """Assert each refusal alone and with others; returns how many of each."""
-    numbers = [1, 2, 3, 4, 5, 6, 7, 10, 11, 19]
+    numbers = ORDER
     faults = all_faults()
     assert refusal_with([]) == 0
 
@@ -666,10 +699,10 @@ def test_refusals():
         refusal = refusal_with([fault])
         assert refusal == fault[0]
         alone[refusal] += 1
-    assert sorted(alone) == numbers
+    assert sorted(alone) == sorted(numbers)
 
-    # Two at a time: the lower wins.  With 5 the message is empty, so it can
-    # neither have a symbol above 63 nor be shorter.
+    # Two at a time: the first in order wins.  With 5 the message is empty, so
+    # it can neither have a symbol above 63 nor be shorter.
     pairs = collections.Counter()
     for i in range(len(faults)):
         for j in range(i + 1, len(faults)):
@@ -677,16 +710,16 @@ def test_refusals():
             second = faults[j]
             if first[0] == second[0]:
                 continue
-            lower = min(first[0], second[0])
-            higher = max(first[0], second[0])
-            if (lower, higher) == (5, 7):
+            winner = first_of([first[0], second[0]])
+            loser = first[0] + second[0] - winner
+            if (winner, loser) == (5, 7):
                 assert refusal_with([first, second]) == 5
                 continue
             if first[0] == 5 and second is faults[-1]:
                 assert refusal_with([first, second]) == 5
                 continue
-            assert refusal_with([first, second]) == lower
-            pairs[(lower, higher)] += 1
+            assert refusal_with([first, second]) == winner
+            pairs[(winner, loser)] += 1
     for i in range(len(numbers)):
         for j in range(i + 1, len(numbers)):
             pair = (numbers[i], numbers[j])
@@ -698,7 +731,7 @@ def test_refusals():
     assert link(**given) == (2, None)
 
     # More at a time, without 5, 7 and the shorter message, each of which can
-    # take back another: the lowest wins.
+    # take back another: the first in order wins.
     draw = random.Random(19)
     sure = [fault for fault in faults[:-1] if fault[0] not in (5, 7)]
     several = collections.Counter()
@@ -714,7 +747,7 @@ def test_refusals():
         # Two faults of the same argument can be made one after the other, and
         # then only the parts tell what fits.
         if len({number for number, alter in made}) == len(made):
-            assert refusal == min(number for number, alter in made)
+            assert refusal == first_of([number for number, alter in made])
             several[refusal] += 1
     return (alone, pairs, several)
 
@@ -723,6 +756,7 @@ def test_borders():
     """Assert that the values at the ends of each range are taken."""
     for name, values in (("amplitude", (1, 127)), ("top", (1, 255)),
                          ("bottom", (1, 255)), ("Qm", (3, 13)),
+                         ("m", (1, 2, 63, 64)),
                          ("coefs", ([1] * 4, [63] * 4)),
                          ("message", ([0, 0], [63, 63])),
                          ("base", (1, 2 ** 64 - 2, 2 ** 63))):
@@ -765,8 +799,8 @@ if __name__ == "__main__":
     for name in sorted(tally):
         print("%6d %s" % (tally[name], name))
     for number in sorted(alone):
-        print("refusal %2d: %3d alone, %4d as the lower of two, %4d as the "
-              "lowest of several"
+        print("refusal %2d: %3d alone, %4d as the first of two, %4d as the "
+              "first of several"
               % (number, alone[number],
                  sum(pairs[pair] for pair in pairs if pair[0] == number),
                  several[number]))

@@ -4,9 +4,10 @@ expected of each.
 Writes crates/recorded_calls/stdin and stdout, crates/endings and
 crates/decode; the same bytes in each run.  With --check it writes nothing,
 says whether the stored files are those, and counts how often each call gives
-each number.  In each run the totals are compared with those found by trying
-words, and the products worked out in two ways with each other; where they
-differ it ends at once.
+each number, and what the records with m below 64 tell apart.  In each run the
+totals are compared with those found by trying words, the answers with m = 64
+with those of the full rule, and the products worked out in two ways with each
+other; where they differ it ends at once.
 """
 
 import argparse
@@ -30,6 +31,8 @@ import lost_cases
 import program_cases
 import reading_cases
 import records
+import shorter_cases
+import shorter_check
 import totals_cases
 import totals_check
 import worked_cases
@@ -50,8 +53,8 @@ NUMBERS = {
     "s": (0, 2, 7, 10),
     "d": (0, 2, 3, 10, 11),
     "p": (0, 64),
-    "D": (0, 1, 2, 3, 4, 5, 6, 8, 9),
-    "t": (0, 1, 2, 3, 4, 5, 6, 7, 10, 11, 19),
+    "D": (0, 1, 2, 3, 4, 5, 6, 8, 9, 13),
+    "t": (0, 1, 2, 3, 4, 5, 6, 7, 10, 11, 13, 19),
     "h": (0, 1, 2, 4, 5, 6, 12),
     "l": (0, 2, 12),
     "f": (0, 2, 8, 9, 12),
@@ -96,22 +99,25 @@ def part_lines(parts):
 def record_lines():
     """The lines of all records.
 
-    Those of totals_cases come before and after those of the other parts, as
-    the others' lines would else depend on what they leave in the buffers."""
+    Those of totals_cases come before and after those of the other parts, and
+    those of shorter_cases after all, as the others' lines would else depend on
+    what they leave in the buffers."""
     first = [line for block in totals_cases.first_blocks() for line in block]
-    return first + part_lines(PARTS) + part_lines([totals_cases])
+    return (first + part_lines(PARTS) + part_lines([totals_cases])
+            + part_lines([shorter_cases]))
 
 
 def worked_lines(lines):
-    """The line that is printed for each record, and what was compared of the
-    totals; the two checksums of products are compared too."""
-    check = totals_check.Check()
+    """The line that is printed for each record, and the two checks that have
+    looked at all of them; the two checksums of products are compared too."""
+    checks = [totals_check.Check(), shorter_check.Check()]
     printed = []
     for worked in calls.worked_out(lines):
-        check.look(worked)
+        for check in checks:
+            check.look(worked)
         field_cases.compare(worked)
         printed.append(worked.line)
-    return printed, check.text()
+    return printed, checks
 
 
 def file_of(lines):
@@ -192,13 +198,16 @@ def main():
     parser.add_argument("--check", action="store_true")
     given = parser.parse_args()
     lines = record_lines()
-    printed, totals = worked_lines(lines)
+    printed, checks = worked_lines(lines)
     made = made_files(lines, printed)
     counts = answers(lines, printed)
     wrong = list(complaints(counts))
+    for check in checks:
+        wrong += check.complaints()
     if given.check:
         show_counts(counts)
-        print(totals)
+        for check in checks:
+            print(check.text())
         wrong += ["%s is another file" % name for name in differing(made)]
     else:
         for name, data in made.items():

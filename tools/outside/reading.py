@@ -93,9 +93,11 @@ from decoding import (
 # The number of the paper's table for a file that breaks its form.
 REFUSED_FORM = 12
 
-# The precisions that the program decodes with.
+# The precisions that the program decodes with, and how many values its check
+# nodes try: all.
 PROGRAM_QC = 5
 PROGRAM_QM = 13
+PROGRAM_M = 64
 
 # The lengths of the program's own map and coefficient buffers: those for n = 8.
 PROGRAM_MAP_LENGTH = 256
@@ -266,8 +268,8 @@ def run(code, frame):
     n, map, coefs, penalties = found
     N = 2 ** n
     number, symbols, report, totals, count = decode(
-        n, map, coefs, PROGRAM_QC, PROGRAM_QM, penalties, 65 * N, N, 64 * N,
-        N)
+        n, map, coefs, PROGRAM_QC, PROGRAM_QM, PROGRAM_M, penalties, 65 * N,
+        N, 64 * N, N)
     # What the two readers take, the decoder takes.
     assert number == ACCEPTED
     printed = b""

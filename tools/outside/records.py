@@ -42,8 +42,8 @@ FIELDS = {
     "c": "amplitude noise lost seed numbers | samples",
     "d": "base samples top bottom Qc | frame",
     "p": "frame place |",
-    "D": "n map coefs Qc Qm frame | work symbols report totals",
-    "t": ("n map coefs message base amplitude top bottom Qc Qm "
+    "D": "n map coefs Qc Qm m frame | work symbols report totals",
+    "t": ("n map coefs message base amplitude top bottom Qc Qm m "
           "| samples frame work symbols report totals text"),
     "h": "text | map coefs",
     "l": "text | frame",

@@ -67,13 +67,15 @@ def decode_rows():
     frame = written(spike(5, 1) + spike(4, 1))
     last = [0 if b in (4, 5) else 1 for b in range(64)]
     for Qm in (1, 13):
-        call = dict(TWO, coefs=written([1]), Qc=1, Qm=Qm, frame=frame, **LENT)
+        call = dict(TWO, coefs=written([1]), Qc=1, Qm=Qm, m=64, frame=frame,
+                    **LENT)
         yield "D", call, [0, 0], dict(
             work=[0] * 130, symbols=[0, 4], report=spike(1, 1) + last,
             totals=[0, 1])
     frame = written(spike(33, 3) + spike(1, 3))
     for Qc, Qm, count, far in ((5, 13, 0, 6), (2, 2, 63, 3)):
-        call = dict(TWO, coefs=written([2]), Qc=Qc, Qm=Qm, frame=frame, **LENT)
+        call = dict(TWO, coefs=written([2]), Qc=Qc, Qm=Qm, m=64, frame=frame,
+                    **LENT)
         yield "D", call, [0, count], dict(
             work=[0] * 130, symbols=[0, 33],
             report=spike(0, 3) + spike(33, far), totals=[0, 0])
@@ -81,7 +83,7 @@ def decode_rows():
 
 # N = 4 with all coefficients 1 and place 3 alone a message place, and what the
 # lent buffers of a call for it hold.
-LAST = dict(n=2, map=written([1, 1, 1, 0]), coefs=repeated(4, 1),
+LAST = dict(n=2, map=written([1, 1, 1, 0]), coefs=repeated(4, 1), m=64,
             work=repeated(260, 4711), symbols=repeated(4, 255),
             report=repeated(256, 4711), totals=repeated(4, 65535))
 
@@ -173,6 +175,32 @@ def totals_rows():
         yield clipped_row(2, Qm)
 
 
+def shorter_rows():
+    """A frame of N = 2 with coefficient 2, which the paper does not have,
+    worked by hand for some m.
+
+    The first vector is 0 at 0, else 3; the second is 0 at 1, 1 at 3 and 4,
+    else 3.  2 times 33 is 1, 2 times 2 is 4 and 2 times 32 is 3, so the values
+    in order are 33 with 0, then 2 and 32 with 1, 2 before 32 as it is smaller,
+    then all others with 3.
+    Place 0: 33 gives 0 at 33, else 3; 2 gives 1 at 2, 32 gives 1 at 32, if
+    they are tried; the others give nothing below 3.  So it is 33.
+    Place 1: the sums are 0 at 33, 4 at 2 and 32, else 6, whatever m is.  With
+    Qm = 2 all but one are clipped to 3.
+    """
+    frame = written(spike(0, 3) + penalties({1: 0, 3: 1, 4: 1}, 3))
+    for m, others in ((1, {33: 0}), (2, {33: 0, 2: 1}),
+                      (3, {33: 0, 2: 1, 32: 1}), (4, {33: 0, 2: 1, 32: 1}),
+                      (64, {33: 0, 2: 1, 32: 1})):
+        for Qm, count, last in ((13, 0, penalties({33: 0, 2: 4, 32: 4}, 6)),
+                                (2, 63, spike(33, 3))):
+            call = dict(n=1, map=repeated(2, 0), coefs=written([2]), Qc=2,
+                        Qm=Qm, m=m, frame=frame, **LENT)
+            yield "D", call, [0, count], dict(
+                work=[0] * 130, symbols=[33, 33],
+                report=penalties(others, 3) + last, totals=[0, 0])
+
+
 def listing_rows():
     """What the program prints for the second frame."""
     printed = b"    0    0    0    3\n    1   33    0    6\n    0\n"
@@ -194,7 +222,7 @@ def trip_rows():
             (128, 3, 20, 5, 13, [19], {})):
         call = dict(TWO, coefs=written([2]), message=written([33]), base=1,
                     amplitude=amplitude, top=top, bottom=bottom, Qc=Qc, Qm=Qm,
-                    **lent)
+                    m=64, **lent)
         yield "t", call, numbers, left
 
 
@@ -261,5 +289,5 @@ def compared(found_rows):
 
 def blocks():
     """The records of the rows of the paper; those of totals_rows() are used
-    in totals_cases.py."""
+    in totals_cases.py, those of shorter_rows() in shorter_cases.py."""
     yield from compared(rows())

@@ -44,9 +44,10 @@ pub extern "C" fn zithejo_demap(
     demapper::demap(base, samples, top, bottom, qc, llrs)
 }
 
-// Decodes a frame, as `decoder::decode`. Returns 0, with the symbols, the report, the totals and the count of clipped
-// entries in the places lent for them, and the work buffer all zeros; or the lowest refusal of 1, 2, 3, 4, 5, 6, 8 and
-// 9 that fits, and leaves every buffer and the count as they came.
+// Decodes a frame, as `decoder::decode`: a check node tries as many values as `candidates` says, 1 to 64, of which 64
+// are all. Returns 0, with the symbols, the report, the totals and the count of clipped entries in the places lent for
+// them, and the work buffer all zeros; or the first refusal of 1, 2, 3, 13, 4, 5, 6, 8 and 9 that fits, in this order,
+// and leaves every buffer and the count as they came.
 #[no_mangle]
 pub extern "C" fn zithejo_decode(
     n: usize,
@@ -54,6 +55,7 @@ pub extern "C" fn zithejo_decode(
     coefs: &[u8],
     qc: u32,
     qm: u32,
+    candidates: u32,
     frame: &[u16],
     work: &mut [u16],
     symbols: &mut [u8],
@@ -61,13 +63,25 @@ pub extern "C" fn zithejo_decode(
     totals: &mut [u16],
     count: &mut u32,
 ) -> u8
-    ensures { λ r. ⌜ DecodeCalled (codeOf n (now (map .entry)) (now (coefs .entry))) (settingsOf qc qm)
+    ensures { λ r. ⌜ DecodeCalled (codeOf n (now (map .entry)) (now (coefs .entry))) (settingsOf qc qm candidates)
         (now (frame .entry))
         (lentOf (now (work .entry)) (now (symbols .entry)) (now (report .entry)) (now (totals .entry)))
         (lentOf (now (work .exit)) (now (symbols .exit)) (now (report .exit)) (now (totals .exit)))
         (now (count .entry)) (now (count .exit)) r ⌝ }
 {
-    let answer = decoder::decode(n, map, coefs, qc, qm, frame, work, symbols, report, totals);
+    let answer = decoder::decode(
+        n,
+        map,
+        coefs,
+        qc,
+        qm,
+        candidates,
+        frame,
+        work,
+        symbols,
+        report,
+        totals,
+    );
     match answer {
         Answer::Count(clipped) => {
             *count = clipped;

@@ -1,5 +1,5 @@
 // The steps of a check node.
-use crate::copies::copies;
+use crate::copying::copies;
 use crate::differences::wide_differences;
 ghost use mathlib.Core.Path.{_≡_};
 ghost use Prim.Native.Nat.{_+_, _*_, _<_};

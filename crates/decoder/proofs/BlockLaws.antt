@@ -23,9 +23,9 @@ use Rattle.vector.proofs.LentParts.{tail, put, tail-drop, front-long, lent-long
 use Rattle.polar.proofs.BlockLaws.{split}
 use Rattle.vector.proofs.Laws.{sum-ext}
 use Rattle.vector.proofs.SliceLaws.{vector-drop}
-use Rattle.scms.specs.Nodes.{Lowered, checkNode, lessFrom, clipped, exceeding, variableNode}
+use Rattle.scms.specs.Nodes.{Lowered, checkNodeBy, lessFrom, clipped, exceeding, variableNode}
 use Rattle.scms.specs.Decision.{decision}
-use Rattle.scms.specs.Halves.{Vectors, decodeTree, frameTree}
+use Rattle.scms.specs.Halves.{Vectors, decodeTree, frameTree, decodeTreeBy}
 use Rattle.scms.proofs.NodeLaws.{check-zero, check-most, llrs-from, count-from, taken-from, variable-zero, variable-cap}
 use Rattle.scms.proofs.TreeLists.{frame-at}
 use Rattle.scms.proofs.TreeDecoder.{decoded-word}
@@ -51,10 +51,11 @@ word-symbols block cs map f =
 -- ---- vectors
 
 -- a check node of two such vectors is one
-check-vector : (h : ℕ) (cs v w : List ℕ) (i : ℕ) → h ≡ getD cs i 1 → Coefficients cs → BlockVector v → BlockVector w → BlockVector (checkNode h v w)
-check-vector h cs v w i e g a b =
+check-vector : (m h : ℕ) (cs v w : List ℕ) (i : ℕ) → 1 ≤ m → h ≡ getD cs i 1 → Coefficients cs → BlockVector v → BlockVector w
+    → BlockVector (checkNodeBy m h v w)
+check-vector m h cs v w i one e g a b =
     let u = subst NonZero (sym e) (coef-nonzero cs g i) in
-    record { most = check-most largestLlr h v w u (a .most) (b .zero); zero = check-zero h v w u (a .zero) (b .zero) }
+    record { most = check-most largestLlr m h v w one u (a .most) (b .zero); zero = check-zero m h v w one u (a .zero) (b .zero) }
 
 -- a variable node always is, at a cap of at most 8,191
 variable-vector : (cap h u : ℕ) (v w : List ℕ) → cap ≤ largestLlr → BlockVector (variableNode cap h u v w)
@@ -172,7 +173,7 @@ module _ {block : BlockAt} {cs map frame work word symbols report totals : List 
 
   -- and the check nodes
   pub at-kernels : KernelsGiven block half cs frame work
-  at-kernels = record { layer = at-layer refl (λ i l. refl); few-coefs = g .of-word .few-coefs; room = room-join }
+  at-kernels = record { layer = at-layer refl (λ i l. refl); tries = g .tries; few-coefs = g .of-word .few-coefs; room = room-join }
     where
       room-join : start + half ≤ length cs
       room-join =
@@ -192,6 +193,7 @@ module _ {block : BlockAt} {cs map frame work word symbols report totals : List 
   at-report e = record {
     of-word = g .of-word;
     cap-small = g .cap-small;
+    tries = g .tries;
     nonzero = g .nonzero;
     map-long = g .map-long;
     symbols-long = g .symbols-long;
@@ -216,6 +218,7 @@ module _ {block : BlockAt} {cs map frame work word symbols report totals : List 
       record {
         of-word = subst (λ (h : ℕ). Block (L - 1) (h / 2) s stride cs w) (sym lb) b;
         cap-small = g .cap-small;
+        tries = g .tries;
         nonzero = g .nonzero;
         map-long = lb ∙ sym p;
         symbols-long = ls ∙ sym p;
@@ -239,7 +242,8 @@ module _ {block : BlockAt} {cs map frame work word symbols report totals : List 
       (length-take-le half map (z .in-map)) l1 (polar.at-first ne (g .of-word)) (length-take-le half symbols (z .in-symbols))
       (length-take-le cut report (z .in-report)) (length-take-le half totals (z .in-totals))
       (λ i l. subst BlockVector (sym (ch .nodes i l))
-      (check-vector (getD cs (start + i) 1) cs (vectorAt source (o + i)) (vectorAt source (o + (half + i))) (start + i) refl (g .nonzero)
+      (check-vector (block .candidates) (getD cs (start + i) 1) cs (vectorAt source (o + i)) (vectorAt source (o + (half + i))) (start + i)
+      (g .tries) refl (g .nonzero)
       (g .vectors i (omega arith)) (g .vectors (half + i) (omega arith))))
       (split (FirstFits block cs map source) (first-fits block cs map source) L half ne (g .of-word .halved) (g .taken-fits) (frame ++ work1) (ch .nodes))
 
@@ -441,7 +445,7 @@ one-place : (block : BlockAt) (cs map source w s r t : List ℕ)
     → let symbol = decision (kindOf (getD map 0 0)) (vectorAt source (block .at)) in
     w ≡ symbol ∷ [] → s ≡ symbol ∷ [] → vectorAt r 0 ≡ vectorAt source (block .at) → t ≡ block .taken ∷ []
     → BlockDecoded (withLayers block 0) cs map (vectorsFrom 0 (block .at) source) w s r t 0
-unfolding decodeTree treeOf leaves map1
+unfolding decodeTreeBy treeOf leaves map1
 one-place block cs map source w s r t ew es er et =
     let o = block .at in
     let e : decision (kindOf (getD map 0 0)) (vectorAt source o) ∷ [] ≡ decision (kindOf (getD map 0 0)) (vectorsFrom 0 o source) ∷ []

@@ -1,9 +1,10 @@
 -- What `decode` gives its parts, what it is left with, and its promise.
-use mathlib.Core.Path.{_≡_, sym, ap, _∙_, subst, transport⁻¹}
+use mathlib.Core.Path.{_≡_, refl, sym, ap, _∙_, subst, transport⁻¹}
 use mathlib.Core.List.{List, [], _∷_, _++_}
 use Prim.Native.Nat.{ℕ, _+_, _*_, _/_, _-_, _^_, _≤_, _<_}
 use native.Mathlib.Nat.{le-trans, le-of-eq, add-zero, zero-add, mul-le-mul}
 use native.Mathlib.Omega.{arith}
+use lib.Dec.{lit≤}
 use lib.ListN.{length, getD, take, replicate}
 use lib.Pow.{pow-mono, pow-pos}
 use Rattle.refusal.proofs.Laws.{when-accepted, when-refused}
@@ -17,7 +18,7 @@ use Rattle.polar.proofs.TreeLaws.{number-lt, place-of, map1-at, all-by, ext-at,
 use Rattle.polar.proofs.OneToOne.{coefs-nonzero}
 use Rattle.polar.proofs.EncodeLaws.{word-block}
 use Rattle.scms.specs.Decoder as scms
-use Rattle.scms.specs.Mode.{Mode, capOf, modeOf}
+use Rattle.scms.specs.Mode.{Mode, capOf, modeOf, allCandidates, TriesOne}
 use Rattle.scms.specs.Totals.{LeastTotal, EachZero, Unclipped}
 use Rattle.scms.specs.Claims.{LeastTotals}
 use Rattle.scms.specs.Halves.{Vectors, frameTree, decodeTree, decodeHalves}
@@ -40,18 +41,23 @@ use Rattle.decoder_refusal.proofs.RefusalLaws.{accepted}
 use Rattle.decoder.proofs.FrameLaws.{each-zero, each-qc, each-cap, each-31}
 use Rattle.decoder.proofs.HalvesLaws.{vectors-by}
 
--- the whole word as a block, with its places and its cap
-abbrev pub wholeBlock : (n places cap : ℕ) → BlockAt
-wholeBlock n places cap = record { layers = n; start = 0; at = 0; places = places; cap = cap; taken = 0 }
+-- the whole word as a block, with its places and what its nodes go by
+abbrev pub wholeBlock : (n places cap candidates : ℕ) → BlockAt
+wholeBlock n places cap candidates =
+    record { layers = n; start = 0; at = 0; places = places; cap = cap; candidates = candidates; taken = 0 }
 
 module _ (code : Code) (settings : Settings) (frame : List ℕ) (lent : Lent) where
   -- the number of layers
   abbrev n : ℕ
   n = code .n
 
+  -- how many values a check node tries
+  abbrev m : ℕ
+  m = settings .candidates
+
   -- what the nodes go by
   abbrev mode : Mode
-  mode = modeOf (settings .qm)
+  mode = modeOf (settings .qm) m
 
   -- ---- what is decoded
 
@@ -64,30 +70,35 @@ module _ (code : Code) (settings : Settings) (frame : List ℕ) (lent : Lent) wh
     frame-tree : vectorsFrom n 0 (frame ++ lent .work) ≡ frameTree n frame
     frame-tree = vectors-by n 0 (frame ++ lent .work) (frameTree n frame) (λ p. vector-is (number p) (number-lt p) ∙ sym (frame-at n frame p))
 
+    -- a check node tries a value at least
+    pub tries-one : TriesOne mode
+    tries-one = t .candidates-fit .least
+
     -- what is taken off along each place's line fits in 16 bits: at most 8 × 31 × 128 = 31,744
-    whole-fits : (cap : ℕ) → TakenFits (wholeBlock n (length (code .map)) cap) (code .coefs) (code .map) (frame ++ lent .work)
+    whole-fits : (cap : ℕ) → TakenFits (wholeBlock n (length (code .map)) cap m) (code .coefs) (code .map) (frame ++ lent .work)
     whole-fits cap =
         let few = t .is-code .layers .most in
         let k = coefsAt n 0 (length (code .map) / 2) (code .coefs) in
         let f = vectorsFrom n 0 (frame ++ lent .work) in
         let bounded = subst (All n (Bounded 31)) (sym frame-tree) (frame-bounded n 31 frame (each-zero t) (each-31 t)) in
         let most = mul-le-mul {n₁ = n} {m₁ = 31 * 2 ^ n} {n₂ = 8} {m₂ = 7936} few (let size = pow-mono {i = n} {j = 8} few in omega arith) in
-        all-by (λ x. x + 0 ≤ largestNumber) n (decodeTree n (record { cap = cap }) k (treeOf 0 n (code .map)) f .taken) (λ p.
-        let x = block-fits p (record { cap = cap }) k (treeOf 0 n (code .map)) f 31 (coefs-nonzero n 0 (length (code .map) / 2) (code .coefs) (t .is-code .nonzero)) bounded in
+        all-by (λ x. x + 0 ≤ largestNumber) n (decodeTree n (record { cap = cap; candidates = m }) k (treeOf 0 n (code .map)) f .taken) (λ p.
+        let x = block-fits p (record { cap = cap; candidates = m }) k (treeOf 0 n (code .map)) f 31 tries-one (coefs-nonzero n 0 (length (code .map) / 2) (code .coefs) (t .is-code .nonzero)) bounded in
         omega arith)
 
     -- the whole word is what `decode_block` is given
     pub whole-given : {word : List ℕ} {cap : ℕ} → length word ≡ 2 ^ n → cap ≡ capOf (settings .qm) → cap ≤ largestLlr
-        → BlockGiven (wholeBlock n (length (code .map)) cap) (code .coefs) (code .map) frame (lent .work) word (lent .symbols) (lent .report) (lent .totals)
+        → BlockGiven (wholeBlock n (length (code .map)) cap m) (code .coefs) (code .map) frame (lent .work) word (lent .symbols) (lent .report) (lent .totals)
     whole-given {word} {cap} lw ec lc =
         let a = t .frame-long in
         let b = t .buffers .work-long in
-        let m = t .is-code .map-long in
+        let e = t .is-code .map-long in
         record {
-          of-word = subst (λ (x : ℕ). Block n (x / 2) 0 (x / 2) (code .coefs) word) (sym m) (word-block code word (t .is-code) lw);
+          of-word = subst (λ (x : ℕ). Block n (x / 2) 0 (x / 2) (code .coefs) word) (sym e) (word-block code word (t .is-code) lw);
           cap-small = lc;
+          tries = t .candidates-fit .least;
           nonzero = t .is-code .nonzero;
-          map-long = m;
+          map-long = e;
           symbols-long = t .buffers .symbols-long;
           report-long = t .buffers .report-long;
           totals-long = t .buffers .totals-long;
@@ -103,13 +114,13 @@ module _ (code : Code) (settings : Settings) (frame : List ℕ) (lent : Lent) wh
 
     -- what it leaves is the answer by halves of the frame
     module _ {cap : ℕ} (ec : cap ≡ capOf (settings .qm)) {word ss rs ts : List ℕ} {count : ℕ} (lr : length rs ≡ 64 * 2 ^ n)
-        (d : BlockDecoded (wholeBlock n (length (code .map)) cap) (code .coefs) (code .map) (vectorsFrom n 0 (frame ++ lent .work)) word ss rs ts count) where
+        (d : BlockDecoded (wholeBlock n (length (code .map)) cap m) (code .coefs) (code .map) (vectorsFrom n 0 (frame ++ lent .work)) word ss rs ts count) where
       -- by document 01's sizes and cap
-      by-halves : BlockDecoded (wholeBlock n (2 ^ n) (capOf (settings .qm))) (code .coefs) (code .map) (frameTree n frame) word ss rs ts count
+      by-halves : BlockDecoded (wholeBlock n (2 ^ n) (capOf (settings .qm)) m) (code .coefs) (code .map) (frameTree n frame) word ss rs ts count
       by-halves =
-          subst (λ (x : ℕ). BlockDecoded (wholeBlock n x (capOf (settings .qm))) (code .coefs) (code .map) (frameTree n frame) word ss rs ts count) (t .is-code .map-long)
-          (subst (λ (x : ℕ). BlockDecoded (wholeBlock n (length (code .map)) x) (code .coefs) (code .map) (frameTree n frame) word ss rs ts count) ec
-          (subst (λ (f : Vectors n). BlockDecoded (wholeBlock n (length (code .map)) cap) (code .coefs) (code .map) f word ss rs ts count) frame-tree d))
+          subst (λ (x : ℕ). BlockDecoded (wholeBlock n x (capOf (settings .qm)) m) (code .coefs) (code .map) (frameTree n frame) word ss rs ts count) (t .is-code .map-long)
+          (subst (λ (x : ℕ). BlockDecoded (wholeBlock n (length (code .map)) x m) (code .coefs) (code .map) (frameTree n frame) word ss rs ts count) ec
+          (subst (λ (f : Vectors n). BlockDecoded (wholeBlock n (length (code .map)) cap m) (code .coefs) (code .map) f word ss rs ts count) frame-tree d))
 
       -- the symbols
       pub symbols-decoded : ss ≡ scms.symbols code mode frame
@@ -142,18 +153,21 @@ module _ (code : Code) (settings : Settings) (frame : List ℕ) (lent : Lent) wh
   -- ---- the promise
 
   -- with Qm = 13 nothing is clipped
-  unclipped-13 : Decodable code settings frame lent → Unclipped code (modeOf 13) frame
-  unclipped-13 t = never-clipped code frame (t .is-code .layers .most) (t .is-code .nonzero) (each-zero t) (each-31 t)
+  unclipped-13 : Decodable code settings frame lent → (m : ℕ) → 1 ≤ m → Unclipped code (modeOf 13 m) frame
+  unclipped-13 t m one = never-clipped code m frame one (t .is-code .layers .most) (t .is-code .nonzero) (each-zero t) (each-31 t)
 
   -- so the count is 0 then
   never-counted : Decodable code settings frame lent → settings .qm ≡ 13 → scms.count code mode frame ≡ 0
-  never-counted t q = ap (λ (x : ℕ). scms.count code (modeOf x) frame) q ∙ count-zero code (modeOf 13) frame .unclipped-zero (unclipped-13 t)
+  never-counted t q =
+      ap (λ (x : ℕ). scms.count code (modeOf x m) frame) q
+      ∙ count-zero code (modeOf 13 m) frame .unclipped-zero (unclipped-13 t m (tries-one t))
 
-  -- the least total of all words, which no precision changes, is number 0 of the totals with Qm = 13
+  -- the least total of all words, which no setting changes, is number 0 of the totals with Qm = 13 and full check nodes
   none-less : Decodable code settings frame lent → LeastTotal code frame [] 0
   none-less t =
-      subst (LeastTotal code frame []) (first-total code (modeOf 13) frame)
-      (least-totals code (modeOf 13) frame (t .is-code .nonzero) (each-zero t) (unclipped-13 t) 0 (pow-pos n) .of-row)
+      let full = modeOf 13 allCandidates in
+      subst (LeastTotal code frame []) (first-total code full frame)
+      (least-totals code full frame refl (t .is-code .nonzero) (each-zero t) (unclipped-13 t allCandidates (lit≤ tt)) 0 (pow-pos n) .of-row)
 
   -- the promise from its equations: what else it says holds of the definitions
   promise : {after : Lent} {r : enum.Answer} → returned r ≡ decodeAnswer code settings frame lent
@@ -189,12 +203,12 @@ module _ (code : Code) (settings : Settings) (frame : List ℕ) (lent : Lent) wh
         first-total = λ e. number-so e 0 ∙ first-total code mode frame;
         least-of-all = λ e. none-less (t e);
         totals-fit = λ e i l. le-trans (le-of-eq (number-so e i))
-            (totals-fit (2 ^ settings .qc - 1) code mode frame (t e .is-code .nonzero) (zeros e) (each-qc (t e)) i l);
-        least-totals = λ e u i l.
+            (totals-fit (2 ^ settings .qc - 1) code mode frame (tries-one (t e)) (t e .is-code .nonzero) (zeros e) (each-qc (t e)) i l);
+        least-totals = λ e full u i l.
             transport⁻¹ (λ j. LeastTotals code frame (take i (symbols-so e j)) (number-so e i j) (report-so e i l j))
-            (least-totals code mode frame (t e .is-code .nonzero) (zeros e) u i l);
-        decisions = λ e i l. decided code mode frame (t e .is-code .nonzero) (zeros e) i l;
-        best-word = λ e u f. best-word code mode frame (t e .is-code .nonzero) u f;
+            (least-totals code mode frame full (t e .is-code .nonzero) (zeros e) u i l);
+        decisions = λ e i l. decided code mode frame (tries-one (t e)) (t e .is-code .nonzero) (zeros e) i l;
+        best-word = λ e full u f. best-word code mode frame full (t e .is-code .nonzero) u f;
       }
 
   -- a refusal: its number, and every buffer as it came

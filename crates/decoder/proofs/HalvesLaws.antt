@@ -12,8 +12,8 @@ use Rattle.polar.specs.Halves.{coefsAt}
 use Rattle.polar.specs.Join.{Joined}
 use Rattle.polar.proofs.Numbers.{two-pow}
 use Rattle.polar.proofs.TreeLaws.{number-lt, place-of, map1-at, map3-at, map4-at, all-by, all-at, ext-at, leaves-at}
-use Rattle.scms.specs.Nodes.{checkNode, lowered, variableNode, clippedEntries}
-use Rattle.scms.specs.Halves.{Vectors, BlockAnswer, frameTree, checkNodes, variableNodes, clippedNodes, takenNodes, decodeTree}
+use Rattle.scms.specs.Nodes.{checkNodeBy, lowered, variableNode, clippedEntries}
+use Rattle.scms.specs.Halves.{Vectors, BlockAnswer, frameTree, checkNodes, variableNodes, clippedNodes, takenNodes, decodeTree, checkNodesBy, decodeTreeBy}
 use Rattle.scms.proofs.TreeSums.{tree-sum}
 use Rattle.scms.proofs.TreeLists.{frame-at}
 use Rattle.scms.proofs.ByHalves.{same-three}
@@ -65,10 +65,11 @@ module _ (p : ℕ) (block : BlockAt) (cs source : List ℕ) where
   second-at q = sym (vectors-at (suc p) o source (second q))
 
   -- the check nodes
-  checks-tree : (ys : List ℕ) → AreCheckNodes block (2 ^ p) cs source (2 ^ p) ys → vectorsFrom p (o + (2 ^ p + 2 ^ p)) ys ≡ checkNodes p H (F .0) (F .1)
-  unfolding checkNodes
-  checks-tree ys h = vectors-by p (o + (2 ^ p + 2 ^ p)) ys (map3 p checkNode H (F .0) (F .1)) (λ q.
-      h (number q) (number-lt q) ∙ same-three checkNode (coef-at p (block .start) cs q) (first-at q) (second-at q) ∙ sym (map3-at checkNode q H (F .0) (F .1)))
+  checks-tree : (ys : List ℕ) → AreCheckNodes block (2 ^ p) cs source (2 ^ p) ys → vectorsFrom p (o + (2 ^ p + 2 ^ p)) ys ≡ checkNodes p (block .candidates) H (F .0) (F .1)
+  unfolding checkNodesBy
+  checks-tree ys h = vectors-by p (o + (2 ^ p + 2 ^ p)) ys (map3 p (checkNodeBy (block .candidates)) H (F .0) (F .1)) (λ q.
+      h (number q) (number-lt q) ∙ same-three (checkNodeBy (block .candidates)) (coef-at p (block .start) cs q) (first-at q) (second-at q)
+      ∙ sym (map3-at (checkNodeBy (block .candidates)) q H (F .0) (F .1)))
 
   -- the symbols of the first half, as a list and as a tree
   module _ (w : List ℕ) (W : Tree ℕ p) (hw : (q : Place p) → getD w (number q) 0 ≡ at W q) where
@@ -122,7 +123,7 @@ few-more p left clipped right a b c =
 
 -- a half of a block: one layer less, its coefficients from s on, its vectors from number `at` on, and what was taken off
 abbrev pub halfAt : BlockAt → (layers s at taken : ℕ) → BlockAt
-halfAt block layers s at taken = record { layers = layers; start = s; at = at; places = block .places; cap = block .cap; taken = taken }
+halfAt block layers s at taken = record { layers = layers; start = s; at = at; places = block .places; cap = block .cap; candidates = block .candidates; taken = taken }
 
 -- a block with this many layers
 abbrev pub withLayers : BlockAt → ℕ → BlockAt
@@ -217,7 +218,7 @@ module _ (block : BlockAt) (cs map source : List ℕ) where
 
     -- the first half's answer
     abbrev A : BlockAnswer p
-    A = blockAnswer (firstAt p (2 ^ p)) cs (take (2 ^ p) map) (checkNodes p hs (f .0) (f .1))
+    A = blockAnswer (firstAt p (2 ^ p)) cs (take (2 ^ p) map) (checkNodes p (block .candidates) hs (f .0) (f .1))
 
     -- the vectors of the second half
     abbrev variables : Vectors p
@@ -233,7 +234,7 @@ module _ (block : BlockAt) (cs map source : List ℕ) where
 
     module _ (ys w : List ℕ) (a : Left) (d : FirstDone p (2 ^ p) ys w a) where
       -- what the first half left, from its vectors as a tree
-      by-checks : AnswerLeft (firstAt p (2 ^ p)) cs (take (2 ^ p) map) (checkNodes p hs (f .0) (f .1)) a
+      by-checks : AnswerLeft (firstAt p (2 ^ p)) cs (take (2 ^ p) map) (checkNodes p (block .candidates) hs (f .0) (f .1)) a
       by-checks =
           subst (λ (g : Vectors p). AnswerLeft (firstAt p (2 ^ p)) cs (take (2 ^ p) map) g a) (checks-tree p block cs source ys (d .checked)) (d .decoded)
 
@@ -251,7 +252,7 @@ module _ (block : BlockAt) (cs map source : List ℕ) where
 
     -- the step
     pub step : Step (suc p) p (2 ^ p)
-    unfolding decodeTree coefsAt treeOf leaves map1
+    unfolding decodeTreeBy coefsAt treeOf leaves map1
     step ys zs w after a b sums d v s lr la j =
         let eA = by-checks ys w a d in
         let eB = subst (λ (g : Vectors p). AnswerLeft (secondAt p (2 ^ p) (sums .taken)) cs (drop (2 ^ p) map) g b) (variables-are ys w a d zs sums v) s in
@@ -269,14 +270,14 @@ module _ (block : BlockAt) (cs map source : List ℕ) where
 
     -- the first half
     pub first-fits : FirstFits (suc p) p (2 ^ p)
-    unfolding decodeTree coefsAt treeOf All
+    unfolding decodeTreeBy coefsAt treeOf All
     first-fits fits ys checked =
         subst (λ (g : Vectors p). All p (λ x. x + block .taken ≤ largestNumber) (blockAnswer (firstAt p (2 ^ p)) cs (take (2 ^ p) map) g .taken))
         (sym (checks-tree p block cs source ys checked)) (fits .0)
 
     -- a place of the second half
     place-fits : TakenFits (withLayers block (suc p)) cs map source → (q : Place p) → at (B .taken) q + (block .taken + off) ≤ largestNumber
-    unfolding decodeTree coefsAt treeOf All
+    unfolding decodeTreeBy coefsAt treeOf All
     place-fits fits q =
         let x = all-at (λ x. x + block .taken ≤ largestNumber) q (map1 p (λ x. x + off) (B .taken)) (fits .1) in
         let e = map1-at (λ x. x + off) q (B .taken) in

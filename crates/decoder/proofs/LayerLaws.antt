@@ -12,9 +12,11 @@ use Rattle.reorder.proofs.LowLaws.{low-same}
 use Rattle.decoder.specs.Parts.{Kept, LayerGiven, OrderedGiven}
 use Rattle.decoder.specs.declared.vectors.BlockAt.{BlockAt}
 
--- a block from what the loops go by: where its kernels' coefficients begin, and the number of its first vector
-abbrev pub blockFrom : (start at : ℕ) → BlockAt
-blockFrom start at = record { layers = 0; start = start; at = at; places = 0; cap = 0; taken = 0 }
+-- a block from what the loops go by: where its kernels' coefficients begin, the number of its first vector, and how many
+-- values a check node tries
+abbrev pub blockFrom : (start at candidates : ℕ) → BlockAt
+blockFrom start at candidates =
+    record { layers = 0; start = start; at = at; places = 0; cap = 0; candidates = candidates; taken = 0 }
 
 -- the vectors g 0, g 1, .., g (t − 1) stand after the block's, and what was before them is as it was
 pub record StoredNodes (at half : ℕ) (frame work : List ℕ) (g : ℕ → List ℕ) (after : List ℕ) (t : ℕ) : Type 0 where

@@ -8,7 +8,7 @@ use lib.ListN.{getD, take, replicate}
 use Rattle.refusal.specs.Returned.{Returned}
 use Rattle.vector.specs.Vector.{vectorAt}
 use Rattle.polar_code.specs.Code.{Code}
-use Rattle.scms.specs.Mode.{Mode, modeOf}
+use Rattle.scms.specs.Mode.{Mode, modeOf, Full}
 use Rattle.scms.specs.Decoder as scms
 use Rattle.scms.specs.Totals.{LeastTotal, FrozenFirst, Unclipped}
 use Rattle.scms.specs.Claims.{CountZero, LeastTotals, Decided, BestWord}
@@ -17,7 +17,7 @@ use Rattle.decoder.specs.declared.decoder.Answer.the-variants.{Count, Re
 use Rattle.decoder_refusal.specs.Refusals.{Settings, Lent, decodeRefusal}
 
 -- the number and the values for each case of the answer: a decoded frame has the count of clipped entries, a refusal
--- its number (for `decode` one of the table 'Refused') and no value
+-- its number (for `decode` one of the table 'Refused', or 13) and no value
 unfoldable pub returned : Answer → Returned
 returned (Count count) = record { number = 0; values = count ∷ [] }
 returned (Refused number) = record { number = number; values = [] }
@@ -31,9 +31,9 @@ module _ (code : Code) (settings : Settings) (frame : List ℕ) (lent : Lent) wh
   abbrev pub Accepted : Type 0
   Accepted = refusal ≡ 0
 
-  -- what the nodes go by: the cap, 2^Qm − 1
+  -- what the nodes go by: the cap, 2^Qm − 1, and how many values a check node tries
   abbrev mode : Mode
-  mode = modeOf (settings .qm)
+  mode = modeOf (settings .qm) (settings .candidates)
 
   -- what is made where the call is accepted, or on a refusal what is kept
   abbrev either : List ℕ → List ℕ → List ℕ
@@ -83,7 +83,7 @@ module _ (code : Code) (settings : Settings) (frame : List ℕ) (lent : Lent) wh
     pub least-of-all : Accepted → LeastTotal code frame [] 0
     pub totals-fit : Accepted → (i : ℕ) → i < 2 ^ code .n
         → getD (after .totals) i 0 ≤ code .n * ((2 ^ settings .qc - 1) * (2 ^ code .n / 2))
-    pub least-totals : Accepted → Unclipped code mode frame → (i : ℕ) → i < 2 ^ code .n
+    pub least-totals : Accepted → Full mode → Unclipped code mode frame → (i : ℕ) → i < 2 ^ code .n
         → LeastTotals code frame (take i (after .symbols)) (getD (after .totals) i 0) (vectorAt (after .report) i)
     pub decisions : Accepted → (i : ℕ) → i < 2 ^ code .n → Decided code mode frame i
-    pub best-word : Accepted → Unclipped code mode frame → FrozenFirst code → BestWord code mode frame
+    pub best-word : Accepted → Full mode → Unclipped code mode frame → FrozenFirst code → BestWord code mode frame

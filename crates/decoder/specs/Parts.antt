@@ -10,7 +10,7 @@ use Rattle.polar.specs.Tree.{map1, All, leaves, treeOf}
 use Rattle.polar.specs.Halves.{coefsAt}
 use Rattle.polar.specs.Parts.{Block}
 use Rattle.scms.specs.Mode.{Mode}
-use Rattle.scms.specs.Nodes.{Lowered, ordered, checkNode, lessFrom, clipped, exceeding, lowered}
+use Rattle.scms.specs.Nodes.{Lowered, ordered, checkNodeBy, lessFrom, clipped, exceeding, lowered}
 use Rattle.scms.specs.Nodes.{variableNode, clippedEntries}
 use Rattle.scms.specs.Decision.{decision}
 use Rattle.scms.specs.Halves.{Vectors, BlockAnswer, decodeTree, frameTree}
@@ -44,9 +44,10 @@ pub record LayerGiven (block : BlockAt) (half : ℕ) (frame work : List ℕ) : T
   pub long : 64 * (block .at + (half + half) + half) ≤ length frame + length work
   pub most : (i : ℕ) → i < half + half → AtMost largestLlr (vectorAt (frame ++ work) (block .at + i))
 
--- and with it the check nodes their coefficients
+-- and with it the check nodes their coefficients, and a number of values to try
 pub record KernelsGiven (block : BlockAt) (half : ℕ) (cs frame work : List ℕ) : Type 0 where
   pub layer : LayerGiven block half frame work
+  pub tries : 1 ≤ block .candidates
   pub few-coefs : length cs ≤ 1024
   pub room : block .start + half ≤ length cs
 
@@ -74,7 +75,7 @@ module _ (block : BlockAt) (half : ℕ) (cs source : List ℕ) where
 
   -- the check node of kernel t, made from the block's vectors
   abbrev pub checkAt : ℕ → List ℕ
-  checkAt t = checkNode (coefAt t) (thetaAt (block .at) source t) (phiAt (block .at) half source t)
+  checkAt t = checkNodeBy (block .candidates) (coefAt t) (thetaAt (block .at) source t) (phiAt (block .at) half source t)
 
   -- those of the first `count` kernels stand in another list after the block's vectors
   abbrev pub AreCheckNodes : (count : ℕ) (target : List ℕ) → Type 0
@@ -169,7 +170,7 @@ vectorsFrom m at source = frameTree m (drop (64 * at) source)
 
 -- what the nodes go by
 abbrev pub modeAt : BlockAt → Mode
-modeAt block = record { cap = block .cap }
+modeAt block = record { cap = block .cap; candidates = block .candidates }
 
 -- a block's answer, from its vectors
 abbrev pub blockAnswer : (block : BlockAt) (cs map : List ℕ) → Vectors (block .layers) → BlockAnswer (block .layers)
@@ -193,6 +194,7 @@ pub record BlockVector (v : List ℕ) : Type 0 where
 pub record BlockGiven (block : BlockAt) (cs map frame work word symbols report totals : List ℕ) : Type 0 where
   pub of-word : Block (block .layers) (length map / 2) (block .start) (block .places / 2) cs word
   pub cap-small : block .cap ≤ largestLlr
+  pub tries : 1 ≤ block .candidates
   pub nonzero : Coefficients cs
   pub map-long : length map ≡ 2 ^ block .layers
   pub symbols-long : length symbols ≡ 2 ^ block .layers

@@ -70,6 +70,7 @@ pub(crate) fn decode_block(
         at: next,
         places: block.places,
         cap: block.cap,
+        candidates: block.candidates,
         taken: block.taken,
     };
     check_nodes(block, half, coefs, table, frame, work, &mut report[cut..]);
@@ -90,8 +91,9 @@ pub(crate) fn decode_block(
         layers,
         start: first_start + half / 2,
         at: next,
-        places: block.places,
-        cap: block.cap,
+        places: first.places,
+        cap: first.cap,
+        candidates: first.candidates,
         taken: block.taken + nodes.taken,
     };
     let right = decode_block(

@@ -13,7 +13,7 @@ ghost use Rattle.gf64.specs.ProductTable.{productTable};
 ghost use Rattle.decoder.specs.Parts.{KernelsGiven, CheckNodesWritten};
 ghost use Rattle.decoder.specs.Parts.{LayerGiven, FirstSymbols, OrderedGiven, SumFits, VariableNodesWritten};
 
-// The check nodes of a block's kernels. Phi's vectors are put in the order of c for them, by the table of products that
+// The check nodes of a block's kernels, each of which tries as many values as the block says. Phi's vectors are put in the order of c for them, by the table of products that
 // is lent, and kept so in `room` for the variable nodes.
 pub(crate) fn check_nodes(
     block: BlockAt,
@@ -32,6 +32,7 @@ pub(crate) fn check_nodes(
     let places = block.places;
     let at = block.at;
     let start = block.start;
+    let candidates = block.candidates;
     let to = at + (half + half) - places;
     let mut t: usize = 0;
     while t < half {
@@ -39,7 +40,7 @@ pub(crate) fn check_nodes(
         let phi = load_vector(places, frame, work, at + (half + t));
         let ordered = phi_order::ordered(&phi, table, coefs[start + t]);
         vector::store(&ordered, t, room);
-        let r = check_node::check_node(&theta, &ordered);
+        let r = short_check_node::short_check_node(&theta, &ordered, candidates);
         vector::store(&r, to + t, work);
         t += 1;
     }

@@ -19,6 +19,8 @@ pub(crate) struct BlockAt {
     pub places: usize,
     // The cap of the variable nodes.
     pub cap: u16,
+    // How many values a check node tries.
+    pub candidates: usize,
     // What was taken off along the line of each of its places, before its own layers.
     pub taken: u16,
 }

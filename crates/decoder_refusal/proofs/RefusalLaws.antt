@@ -281,7 +281,7 @@ module _ (code : Code) (settings : Settings) (frame : List ℕ) (lent : Lent) wh
       let by-size = parts .0 in
       let rooms = by-size .1 .1 .1 in
       let by-content = parts .1 in
-      let bytes = by-content .1 .1 in
+      let bytes = by-content .1 .1 .1 in
       let long = false-equal (length frame) (64 * size) (rooms .0) in
       record {
         is-code = rows-code code (by-size .0, (by-size .1 .0, (by-size .1 .1 .0, tt))) (bytes .0, (bytes .1 .0, (bytes .1 .1 .0, tt)));
@@ -289,6 +289,7 @@ module _ (code : Code) (settings : Settings) (frame : List ℕ) (lent : Lent) wh
         buffers = rows-buffers size frame lent (rooms .1);
         channel-precision = inside-within 1 5 qc (by-content .0);
         internal-precision = inside-within qc 13 (settings .qm) (by-content .1 .0);
+        candidates-fit = inside-within 1 64 (settings .candidates) (by-content .1 .1 .0);
         is-frame = frame-of-rows qc size frame (let most : length frame / 64 ≤ size = omega arith in most) (bytes .1 .1 .1 .0) (bytes .1 .1 .1 .1 .0);
       }
 
@@ -302,21 +303,22 @@ module _ (code : Code) (settings : Settings) (frame : List ℕ) (lent : Lent) wh
       let rooms = buffers-rows size frame lent (t .buffers) in
       let qc-fits = within-inside 1 5 qc (t .channel-precision) in
       let qm-fits = within-inside qc 13 (settings .qm) (t .internal-precision) in
+      let number-fits = within-inside 1 64 (settings .candidates) (t .candidates-fit) in
       let bytes = code-bytes code (t .is-code) in
       let small = small-frame qc frame (t .is-frame) in
       let zeros = zeros-frame qc frame (t .is-frame) size (let long = t .frame-long in omega arith) in
       both-accepted sizes contents
       (by-size .0, (by-size .1 .0, (by-size .1 .1 .0, (frame-room, rooms))))
-      (qc-fits, (qm-fits, (bytes .0, (bytes .1 .0, (bytes .1 .1 .0, (small, (zeros, tt)))))))
+      (qc-fits, (qm-fits, (number-fits, (bytes .0, (bytes .1 .0, (bytes .1 .1 .0, (small, (zeros, tt))))))))
 
   -- a code is not refused by 1, 4, 5 or 6, whatever else the call is given
-  pub code-numbers : IsCode code → OneOf (decodeRefusal code settings frame lent) (0 ∷ 2 ∷ 3 ∷ 8 ∷ 9 ∷ [])
+  pub code-numbers : IsCode code → OneOf (decodeRefusal code settings frame lent) (0 ∷ 2 ∷ 3 ∷ 13 ∷ 8 ∷ 9 ∷ [])
   unfolding decodeRefusal
   code-numbers c =
       let by-size = code-sizes code c in
       let bytes = code-bytes code c in
-      let others : List ℕ = 2 ∷ 3 ∷ 8 ∷ 9 ∷ [] in
+      let others : List ℕ = 2 ∷ 3 ∷ 13 ∷ 8 ∷ 9 ∷ [] in
       let table = decodeTable code settings frame lent in
-      let on-bytes : Among others (drop 10 table) = (inl (bytes .0), (inl (bytes .1 .0), (inl (bytes .1 .1 .0), (inr tt, (inr tt, tt))))) in
-      let on-rest : Among others (drop 4 table) = (inr tt, (inr tt, (inr tt, (inr tt, (inr tt, (inr tt, on-bytes)))))) in
+      let on-bytes : Among others (drop 11 table) = (inl (bytes .0), (inl (bytes .1 .0), (inl (bytes .1 .1 .0), (inr tt, (inr tt, tt))))) in
+      let on-rest : Among others (drop 4 table) = (inr tt, (inr tt, (inr tt, (inr tt, (inr tt, (inr tt, (inr tt, on-bytes))))))) in
       refusal-among others table (inl (by-size .0), (inr tt, (inr tt, (inr tt, on-rest))))

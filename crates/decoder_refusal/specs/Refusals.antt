@@ -1,4 +1,4 @@
--- By which number of document 01's table 'Refused' a call of `decode` is refused.
+-- By which number a call of `decode` is refused: those of document 01's table 'Refused', and 13 of document 02.
 use Prim.Native.Nat.{ℕ, _*_, _/_, _-_, _^_, max}
 use mathlib.Core.Path.{_≡_}
 use mathlib.Core.Bool.{Bool, true, not, _&&_}
@@ -26,6 +26,10 @@ greatest (x ∷ xs) = max x (greatest xs)
 abbrev pub qmRow : (qc qm : ℕ) → Row
 qmRow qc qm = (3, outside qc 13 qm)
 
+-- 13: the number m of values that a check node tries is outside 1 to 64
+abbrev pub candidatesRow : ℕ → Row
+candidatesRow candidates = (13, outside 1 64 candidates)
+
 -- 8: a penalty above the largest one
 abbrev pub aboveRow : (most : ℕ) → List ℕ → Row
 aboveRow most frame = (8, anyOutside 0 most frame)
@@ -42,14 +46,16 @@ zerosRow places frame = (9, anyTo places (λ i. noZero (vectorAt frame i)))
 abbrev pub penaltyTable : (most : ℕ) → List ℕ → List Row
 penaltyTable most frame = aboveRow most frame ∷ zerosRow (length frame / 64) frame ∷ []
 
--- what a caller of `decode` sets beside the code: the precisions Qc and Qm
+-- what a caller of `decode` sets beside the code: the precisions Qc and Qm, and how many values a check node tries (the
+-- papers' m)
 pub record Settings : Type 0 where
   pub qc : ℕ
   pub qm : ℕ
+  pub candidates : ℕ
 
--- those precisions
-abbrev pub settingsOf : (qc qm : ℕ) → Settings
-settingsOf qc qm = record { qc = qc; qm = qm }
+-- those settings
+abbrev pub settingsOf : (qc qm candidates : ℕ) → Settings
+settingsOf qc qm candidates = record { qc = qc; qm = qm; candidates = candidates }
 
 -- the buffers that a caller of `decode` lends to be written
 pub record Lent : Type 0 where
@@ -79,19 +85,24 @@ pub record BuffersFit (places : ℕ) (lent : Lent) : Type 0 where
   pub report-long : length (lent .report) ≡ 64 * places
   pub totals-long : length (lent .totals) ≡ places
 
--- the rows of document 01's table that `decode` has the input for, in its order: first those on n and the lengths
+-- the rows that `decode` has the input for, in the order in which they are tried: first those on n and the lengths
 abbrev pub sizeTable : Code → (frame : List ℕ) → Lent → List Row
 sizeTable code frame lent = codeSizes code ++ bufferRows (2 ^ code .n) frame lent
 
--- the rows on the precisions and on the code's bytes
+-- the rows on the settings: 13 comes after 3
+abbrev pub settingsRows : Settings → List Row
+settingsRows settings =
+    qcRow (settings .qc) ∷ qmRow (settings .qc) (settings .qm) ∷ candidatesRow (settings .candidates) ∷ []
+
+-- the rows on the settings, and after them those on the code's bytes
 abbrev pub codeRows : (map cs : List ℕ) → Settings → List Row
-codeRows map cs settings = qcRow (settings .qc) ∷ qmRow (settings .qc) (settings .qm) ∷ codeTable map cs
+codeRows map cs settings = settingsRows settings ++ codeTable map cs
 
 -- the rows after these, for this largest penalty and this many vectors
 abbrev pub frameRows : (most places : ℕ) (frame : List ℕ) → List Row
 frameRows most places frame = aboveRow most frame ∷ zerosRow places frame ∷ []
 
--- then those on the precisions and on what the slices hold, the frame having this many vectors
+-- then those on the settings and on what the slices hold, the frame having this many vectors
 abbrev pub contentTable : (places : ℕ) (map cs : List ℕ) → Settings → (frame : List ℕ) → List Row
 contentTable places map cs settings frame =
     codeRows map cs settings ++ frameRows (2 ^ settings .qc - 1) places frame
@@ -112,4 +123,5 @@ module _ (code : Code) (settings : Settings) (frame : List ℕ) (lent : Lent) wh
     pub buffers : BuffersFit (2 ^ code .n) lent
     pub channel-precision : Within 1 5 (settings .qc)
     pub internal-precision : Within (settings .qc) 13 (settings .qm)
+    pub candidates-fit : Within 1 64 (settings .candidates)
     pub is-frame : IsFrame (settings .qc) frame

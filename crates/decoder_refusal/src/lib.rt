@@ -4,3 +4,4 @@ mod refusals;
 
 pub use refusals::decode_refusal;
 pub use refusals::frame_refusal;
+pub use refusals::settings_refusal;

@@ -1,4 +1,4 @@
-// The refusals of `decode`: the first test that fits, in the order of document 01's table 'Refused'.
+// The refusals of `decode`: the first test that fits, in the order of document 01's table 'Refused', with 13 after 3.
 ghost use mathlib.Core.Path.{_≡_};
 ghost use Prim.Native.Nat.{_/_};
 ghost use lib.ListN.{length};
@@ -7,7 +7,8 @@ ghost use Rattle.refusal.specs.Tests.{anyOutside, anyTo};
 ghost use Rattle.vector.specs.Vector.{vectorAt};
 ghost use Rattle.polar_code.specs.Code.{codeOf};
 ghost use Rattle.decoder_refusal.specs.Refusals.{noZero, greatest, penaltyTable};
-ghost use Rattle.decoder_refusal.specs.Refusals.{settingsOf, lentOf, sizeTable, contentTable, decodeRefusal};
+ghost use Rattle.decoder_refusal.specs.Refusals.{settingsOf, lentOf, settingsRows, sizeTable};
+ghost use Rattle.decoder_refusal.specs.Refusals.{contentTable, decodeRefusal};
 
 // The greatest number of the frame, 0 where it has none.
 fn greatest(frame: &[u16]) -> u16
@@ -82,32 +83,44 @@ fn size_refusal(
     refusal::first(r, 2, totals.len() != size)
 }
 
-// The refusal by the precisions and by what the map, the coefficients and the frame hold, 0 where none of them is
-// wrong.
-fn content_refusal(map: &[u8], coefs: &[u8], qc: u32, qm: u32, frame: &[u16]) -> u8
-    ensures { λ r. ⌜ r ≡ refusalOf (contentTable (length (now (frame .entry)) / 64) (now (map .entry))
-        (now (coefs .entry)) (settingsOf qc qm) (now (frame .entry))) ⌝ }
+// The refusal by the settings, 0 where none of them is wrong: the precisions (3), and then how many values a check node
+// tries (13). A call that decodes what it has sent gives it too.
+pub fn settings_refusal(qc: u32, qm: u32, candidates: u32) -> u8
+    ensures { λ r. ⌜ r ≡ refusalOf (settingsRows (settingsOf qc qm candidates)) ⌝ }
 {
-    let r = refusal::first(0, 3, refusal::is_outside(qc, 1, 5));
-    let r = refusal::first(r, 3, refusal::is_outside(qm, qc, 13));
+    let low = refusal::is_outside(qc, 1, 5);
+    let high = refusal::is_outside(qm, qc, 13);
+    let number = refusal::is_outside(candidates, 1, 64);
+    let r = refusal::first(0, 3, low);
+    let r = refusal::first(r, 3, high);
+    refusal::first(r, 13, number)
+}
+
+// The refusal by the settings and by what the map, the coefficients and the frame hold, 0 where none of them is wrong.
+fn content_refusal(map: &[u8], coefs: &[u8], qc: u32, qm: u32, candidates: u32, frame: &[u16]) -> u8
+    ensures { λ r. ⌜ r ≡ refusalOf (contentTable (length (now (frame .entry)) / 64) (now (map .entry))
+        (now (coefs .entry)) (settingsOf qc qm candidates) (now (frame .entry))) ⌝ }
+{
+    let r = settings_refusal(qc, qm, candidates);
     let r = refusal::or_else(r, polar_code::code_refusal(map, coefs));
     refusal::or_else(r, frame_refusal(frame, vector::largest(qc)))
 }
 
-// The number by which `decode` refuses, 0 where it accepts its input: the first test that fits, in document 01's order.
+// The number by which `decode` refuses, 0 where it accepts its input: the first test that fits, in the table's order.
 pub fn decode_refusal(
     n: usize,
     map: &[u8],
     coefs: &[u8],
     qc: u32,
     qm: u32,
+    candidates: u32,
     frame: &[u16],
     work: &[u16],
     symbols: &[u8],
     report: &[u16],
     totals: &[u16],
 ) -> u8
-    ensures { λ r. ⌜ r ≡ decodeRefusal (codeOf n (now (map .entry)) (now (coefs .entry))) (settingsOf qc qm)
+    ensures { λ r. ⌜ r ≡ decodeRefusal (codeOf n (now (map .entry)) (now (coefs .entry))) (settingsOf qc qm candidates)
         (now (frame .entry))
         (lentOf (now (work .entry)) (now (symbols .entry)) (now (report .entry)) (now (totals .entry))) ⌝ }
 {
@@ -115,5 +128,5 @@ pub fn decode_refusal(
     if refused != 0 {
         return refused;
     }
-    content_refusal(map, coefs, qc, qm, frame)
+    content_refusal(map, coefs, qc, qm, candidates, frame)
 }

@@ -135,7 +135,7 @@ samples-accepted base codeword before numbers amplitude top bottom qc frame = re
 module _ (code : Code) (settings : Settings) (frame : List ℕ) (lent : Lent) (f : IsFrame (settings .qc) frame) where
   -- the numbers that are left
   abbrev left : List ℕ
-  left = 1 ∷ 2 ∷ 3 ∷ 4 ∷ 5 ∷ 6 ∷ []
+  left = 1 ∷ 2 ∷ 3 ∷ 13 ∷ 4 ∷ 5 ∷ 6 ∷ []
 
   -- the rows on n and the lengths
   abbrev sizes : List Row
@@ -154,7 +154,7 @@ module _ (code : Code) (settings : Settings) (frame : List ℕ) (lent : Lent) (f
   by-content =
       let small = small-frame (settings .qc) frame f in
       let zeros = zeros-frame (settings .qc) frame f (length frame / 64) (le-refl (length frame / 64)) in
-      refusal-among left contents (inr tt, (inr tt, (inr tt, (inr tt, (inr tt, (inl small, (inl zeros, tt)))))))
+      refusal-among left contents (inr tt, (inr tt, (inr tt, (inr tt, (inr tt, (inr tt, (inl small, (inl zeros, tt))))))))
 
   -- so the refusal is one of these
   not-by-llrs : OneOf (decodeRefusal code settings frame lent) (0 ∷ left)
@@ -190,12 +190,13 @@ frame-accepted base top bottom samples before frame code settings lent =
     record {
       not-eight = λ d. not-number code settings frame lent (written-frame base top bottom qc samples before frame d) 8 refl;
       not-nine = λ d. not-number code settings frame lent (written-frame base top bottom qc samples before frame d) 9 refl;
-      accepted = λ d c l w b. decode.accepts code settings frame lent (record {
+      accepted = λ d c l w m b. decode.accepts code settings frame lent (record {
         is-code = c;
         frame-long = written-long base top bottom qc samples before frame d (code .n) l;
         buffers = b;
         channel-precision = demap.accepted base top bottom qc samples before (sym (d .answer)) .precision;
         internal-precision = w;
+        candidates-fit = m;
         is-frame = written-frame base top bottom qc samples before frame d;
       });
     }

@@ -1,3 +1,4 @@
 pub mod Noiseless
 pub mod Accepted
+pub mod DecoderRows
 pub mod Table

@@ -120,7 +120,8 @@ module _ (s : Transmission) (r : Reception) (h : ChainInput s r) where
       let a = h .channel-precision .least in
       let b = h .internal-precision .least in
       let c = pow-mono {i = 1} {j = r .settings .qm} (omega arith) in
-      let word = noiseless code (modeOf (r .settings .qm)) frame u (omega arith) (h .sendable .is-code .nonzero) in-code (sent p) in
+      let word = noiseless code (modeOf (r .settings .qm) (r .settings .candidates)) frame u (omega arith)
+      (h .candidates-fit .least) (h .sendable .is-code .nonzero) in-code (sent p) in
       record { word-back = word; message-back = ap (messageOf (code .map)) word ∙ message-back (code .map) (s .message) (h .sendable .message-long) }
 
   -- the condition on base, amplitude and gain is enough

@@ -1,7 +1,7 @@
 -- The table of worked rows holds, by computing every row from the definitions; the two claims on the premise come from the corollary.
-use mathlib.Core.Path.{_≡_, refl, sym, _∙_}
+use mathlib.Core.Path.{_≡_, refl, sym, ap₂, _∙_}
 use mathlib.Core.Bool.{false}
-use mathlib.Core.List.{List, [], _∷_, _++_}
+use mathlib.Core.List.{List, [], _∷_, _++_, map-append}
 use Prim.Native.Nat.{ℕ}
 use native.Mathlib.Omega.{arith}
 use borrow.Author.Tests.{le-ltb}
@@ -21,9 +21,10 @@ use Rattle.ccsk.specs.Spread.{numbersOf, spreadRefusal}
 use Rattle.demapper.specs.Samples.{hardChip, isLost, magnitude, added, raw, rawLlrs, quantised, quantisedLlrs, llrs}
 use Rattle.demapper.specs.Demap.{frameOf, demapRefusal}
 use Rattle.demapper.specs.Noiseless.{sentSample, sentSymbol, numberSamples}
-use Rattle.scms.specs.Nodes.{ordered, checkFrom, checkNode, sumsFrom, sums, lessFrom, subtractLeast, clipped, exceeding, lowered, variableNode, clippedEntries}
+use Rattle.scms.specs.Tried.{countBelow, countEqual, countBefore, triedTo, tried, leastOver}
+use Rattle.scms.specs.Nodes.{ordered, checkTried, checkNodeBy, sumsFrom, sums, lessFrom, subtractLeast, clipped, exceeding, lowered, variableNode, clippedEntries}
 use Rattle.scms.specs.Decision.{smallestTo, smallest, decision}
-use Rattle.scms.specs.Mode.{capOf, modeOf}
+use Rattle.scms.specs.Mode.{capOf, modeOf, allCandidates}
 use Rattle.scms.specs.Halves.{checkNodes, variableNodes, clippedNodes, takenNodes, decodeTree, frameTree, decodeHalves}
 use Rattle.scms.proofs.ByHalves.{same-answer}
 use Rattle.polar.specs.Tree.{treeOf, leaves, map1, map2, map3, map4, treeSum}
@@ -37,7 +38,8 @@ use Rattle.writer.specs.CodeSheet.{sheetOf, sheetWriteRefusal, sheetBuffer}
 use Rattle.writer.specs.FrameLine.{lineWriteRefusal, lineBuffer}
 use Rattle.listing.specs.Listing.{heldFor, otherValue, leastOther, placeLine, numberLine}
 use Rattle.link.specs.Noiseless.{messageSamples, messageFrame, ChainInput, NoiselessPremise}
-use Rattle.link.specs.Rows.{fourCode, fourFrame, firstLine, sentBy, receivedBy, Worked}
+use Rattle.link.specs.Rows.{Row, productRows, transformRows, baseRows, gainRows, lostRows, linkRows, lineRows, writtenRows, rows, firstLine, sentBy, receivedBy, Worked}
+use Rattle.link.proofs.DecoderRows.{Hold, decoder-low, decoder-high, sheet-hold, listing-hold, totals-of-four}
 use Rattle.link.proofs.Noiseless.{corollary}
 
 -- shift 1 of base 1 differs from shift 0 in two chips
@@ -58,15 +60,6 @@ holds : (code : Code) (message : List ℕ) (qm : ℕ) → ChainInput (sentBy cod
     → NoiselessPremise (sentBy code message) (receivedBy 20 qm)
 holds code message qm h = corollary (sentBy code message) (receivedBy 20 qm) h .any-base (lit< tt) (omega arith)
 
--- the totals of the frame of N = 4, by halves: by index each vector would be made many times
-four-halves : leaves 2 (decodeHalves fourCode (modeOf 13) fourFrame .taken) ≡ 0 ∷ 1 ∷ 3 ∷ 6 ∷ []
-unfolding _⊕_ _⊙_ timesA productBits lowSix tabulate sumTo leastTo least lessLeast vectorAt kindOf ordered checkFrom checkNode sumsFrom sums lessFrom subtractLeast clipped exceeding lowered variableNode clippedEntries smallestTo smallest decision capOf decodeHalves decodeTree frameTree treeOf leaves map1 map2 map3 map4 treeSum checkNodes variableNodes clippedNodes takenNodes coefsAt join
-four-halves = refl
-
--- so they are the totals
-four : totals fourCode (modeOf 13) fourFrame ≡ 0 ∷ 1 ∷ 3 ∷ 6 ∷ []
-four = sym (same-answer fourCode (modeOf 13) fourFrame .same-totals) ∙ four-halves
-
 -- five bytes and more
 five : (line rest : List ℕ) → length line ≡ 5 → ltb (length (line ++ rest)) 5 ≡ false
 five line rest e = le-ltb (length (line ++ rest)) 5 (let l = length-append line rest in omega arith)
@@ -81,7 +74,32 @@ zero-eight : (rest frozen cs : List ℕ) → sheetRefusal (firstLine 48 56 ++ re
 unfolding sheetRefusal badLine part isLine same line fields field before column digit numbers tabulate spelled spelledFrom
 zero-eight rest frozen cs = row-passed 12 _ (five (firstLine 48 56) rest refl) ∙ row-fits 12 _ refl
 
+-- two lists of rows, one after the other
+join-hold : {xs ys : List Row} → Hold xs → Hold ys → Hold (xs ++ ys)
+join-hold {xs} {ys} p q = record { same =
+    map-append (λ (r : Row). r .given) xs ys ∙ ap₂ (λ (a b : List (List ℕ)). a ++ b) (p .same) (q .same)
+    ∙ sym (map-append (λ (r : Row). r .expected) xs ys) }
+
+-- the rows on products, the transform, bases, gains and lost samples
+first-hold : Hold productRows × Hold transformRows × Hold baseRows × Hold gainRows × Hold lostRows
+unfolding _⊕_ _⊙_ timesA productBits lowSix theta phi coefficient atKernel atKernels atLayer layer layers transform refusalOf outside anyOutside unequal tabulate joined sumTo leastTo least lessLeast chip symbolChip turned spreadRefusal hardChip isLost magnitude added raw rawLlrs quantised quantisedLlrs llrs vectorAt frameOf demapRefusal
+first-hold = (record { same = refl }, record { same = refl }, record { same = refl }, record { same = refl }, record { same = refl })
+
+-- those from end to end, on first lines and on what is written
+last-hold : Hold linkRows × Hold lineRows × Hold writtenRows
+unfolding _⊕_ _⊙_ timesA productBits lowSix theta phi coefficient atKernel atKernels atLayer layer layers transform refusalOf outside anyOutside unequal tabulate joined sumTo leastTo least lessLeast chip symbolChip turned hardChip isLost magnitude added raw rawLlrs quantised quantisedLlrs llrs vectorAt frameOf sentSample sentSymbol kindOf symbolAt restAfter wordBefore codewordOf numbersOf withPlace messageOf numberSamples messageSamples messageFrame badLine numberOn numbersOn part isLine same line fields field before column digit numbers spelled spelledFrom anyTo messageCount messagePlaces noZero lines sheetOf sheetWriteRefusal sheetBuffer lineWriteRefusal lineBuffer
+last-hold = (record { same = refl }, record { same = refl }, record { same = refl })
+
+-- all rows
+rows-hold : Hold rows
+rows-hold =
+    let f = first-hold in
+    let l = last-hold in
+    join-hold (f .0) (join-hold (f .1) (join-hold (f .2) (join-hold (f .3) (join-hold (f .4)
+    (join-hold decoder-low (join-hold decoder-high (join-hold sheet-hold
+    (join-hold (l .0) (join-hold (l .1) (join-hold (l .2) listing-hold))))))))))
+
 -- every row holds
 pub worked : Worked
-unfolding _⊕_ _⊙_ timesA productBits lowSix theta phi coefficient atKernel atKernels atLayer layer layers transform refusalOf outside anyOutside unequal tabulate joined sumTo leastTo least lessLeast chip symbolChip turned spreadRefusal hardChip isLost magnitude added raw rawLlrs quantised quantisedLlrs llrs vectorAt frameOf demapRefusal sentSample sentSymbol kindOf ordered checkFrom checkNode sumsFrom sums lessFrom subtractLeast clipped exceeding lowered variableNode clippedEntries smallestTo smallest decision capOf nodes thetaSymbol vectors thetaVector phiVector loweredAt clippedAt clipCount takenIn takenOff heldAt decidedTo held symbols report totals count symbolAt restAfter wordBefore codewordOf numbersOf withPlace messageOf numberSamples messageSamples messageFrame sheetRefusal sheetMap sheetCoefs badLine numberOn numbersOn part isLine same line fields field before column digit numbers spelled spelledFrom anyTo messageCount messagePlaces placeLine numberLine heldFor otherValue leastOther noZero lines sheetOf sheetWriteRefusal sheetBuffer lineWriteRefusal lineBuffer
-worked = record { rows-hold = refl; samples-sent = refl; premise-fails = fails; premise-holds = holds; nine-gives-1 = nine; zero-eight-gives-12 = zero-eight; totals-of-four = four }
+unfolding sentSample sentSymbol tabulate chip symbolChip
+worked = record { rows-hold = rows-hold .same; samples-sent = refl; premise-fails = fails; premise-holds = holds; nine-gives-1 = nine; zero-eight-gives-12 = zero-eight; totals-of-four = totals-of-four }

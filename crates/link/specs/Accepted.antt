@@ -25,7 +25,7 @@ abbrev pub SheetAccepted : (bytes mapBefore coefsBefore map coefs : List ℕ) (n
 SheetAccepted bytes mapBefore coefsBefore map coefs n settings frame lent =
     SheetRead bytes mapBefore coefsBefore map coefs (Layers n)
     → OneOf (decodeRefusal (codeOf n (take (2 ^ n) map) (take (n * (2 ^ n / 2)) coefs)) settings frame lent)
-    (0 ∷ 2 ∷ 3 ∷ 8 ∷ 9 ∷ [])
+    (0 ∷ 2 ∷ 3 ∷ 13 ∷ 8 ∷ 9 ∷ [])
 
 -- `spread` accepts the codeword that `encode` answered, for a base that 10 does not refuse and a buffer of one number
 -- for each symbol
@@ -44,8 +44,8 @@ pub record SamplesAccepted (base : ℕ) (codeword before numbers : List ℕ) (am
       → length frame ≡ 64 * length numbers → demapRefusal base top bottom qc (numberSamples amplitude numbers) frame ≡ 0
 
 -- what `demap` wrote at Qc for any samples, noise or not: `decode` at that Qc does not refuse it by 8 or 9, whatever
--- else it is given; and accepts it, for a code with as many places as there are symbols, a Qm in range and buffers of
--- the lengths needed
+-- else it is given; and accepts it, for a code with as many places as there are symbols, a Qm and an m in range and
+-- buffers of the lengths needed
 pub record FrameAccepted (base top bottom : ℕ) (samples : List ℤ) (before frame : List ℕ) (code : Code)
     (settings : Settings) (lent : Lent) : Type 0 where
   pub not-eight : Demapped base top bottom (settings .qc) samples before frame 0
@@ -54,4 +54,4 @@ pub record FrameAccepted (base top bottom : ℕ) (samples : List ℤ) (before fr
       → decodeRefusal code settings frame lent ≡ 9 → ⊥
   pub accepted : Demapped base top bottom (settings .qc) samples before frame 0 → IsCode code
       → length samples ≡ 64 * 2 ^ code .n → Within (settings .qc) 13 (settings .qm)
-      → BuffersFit (2 ^ code .n) lent → decodeRefusal code settings frame lent ≡ 0
+      → Within 1 64 (settings .candidates) → BuffersFit (2 ^ code .n) lent → decodeRefusal code settings frame lent ≡ 0

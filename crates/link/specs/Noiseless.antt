@@ -39,8 +39,9 @@ transmissionOf n map cs message base amplitude =
     record { code = codeOf n map cs; message = message; base = base; amplitude = amplitude }
 
 -- how it is received, likewise
-abbrev pub receptionOf : (top bottom qc qm : ℕ) → Reception
-receptionOf top bottom qc qm = record { top = top; bottom = bottom; settings = settingsOf qc qm }
+abbrev pub receptionOf : (top bottom qc qm candidates : ℕ) → Reception
+receptionOf top bottom qc qm candidates =
+    record { top = top; bottom = bottom; settings = settingsOf qc qm candidates }
 
 -- a code, a message, a base and an amplitude that are not refused
 pub record Sendable (s : Transmission) : Type 0 where
@@ -50,13 +51,14 @@ pub record Sendable (s : Transmission) : Type 0 where
   pub base-turns : turned (s .base) 32 ≡ s .base → ⊥
   pub amplitude-fits : Within 1 127 (s .amplitude)
 
--- the same with a gain and precisions that are not refused
+-- the same with a gain and settings that are not refused
 pub record ChainInput (s : Transmission) (r : Reception) : Type 0 where
   pub sendable : Sendable s
   pub gain-top : Within 1 255 (r .top)
   pub gain-bottom : Within 1 255 (r .bottom)
   pub channel-precision : Within 1 5 (r .settings .qc)
   pub internal-precision : Within (r .settings .qc) 13 (r .settings .qm)
+  pub candidates-fit : Within 1 64 (r .settings .candidates)
 
 -- the samples sent for a message: its codeword is spread to numbers, and +A is sent for each chip 0 of these and −A for
 -- each chip 1
@@ -80,16 +82,16 @@ module _ (s : Transmission) (r : Reception) where
       (i v : ℕ) → i < 2 ^ s .code .n → v < 64 → (v ≡ getD (codewordOf (s .code) (s .message)) i 0 → ⊥)
       → 1 ≤ getD (vectorAt messageFrame i) v 0
 
-  -- the symbols that are decoded from that frame at the precision Qm
+  -- the symbols that are decoded from that frame at the precision Qm with m values tried by a check node
   abbrev pub messageSymbols : List ℕ
-  messageSymbols = symbols (s .code) (modeOf (r .settings .qm)) messageFrame
+  messageSymbols = symbols (s .code) (modeOf (r .settings .qm) (r .settings .candidates)) messageFrame
 
   -- they are the word before the transform, and those at the message places, in rising order, are the message
   pub record GivenBack : Type 0 where
     pub word-back : messageSymbols ≡ wordBefore (s .code .map) (s .message)
     pub message-back : messageOf (s .code .map) messageSymbols ≡ s .message
 
-  -- the noiseless statement, at every precision, clipped or not
+  -- the noiseless statement, at every precision and with every m, clipped or not
   abbrev pub NoiselessStatement : Type 0
   NoiselessStatement = ChainInput s r → NoiselessPremise → GivenBack
 

@@ -17,7 +17,7 @@ use Rattle.ccsk.specs.Spread.{spreadRefusal}
 use Rattle.demapper.specs.Samples.{lost}
 use Rattle.demapper.specs.Demap.{frameOf, demapRefusal}
 use Rattle.demapper.specs.Noiseless.{sentSymbol}
-use Rattle.scms.specs.Mode.{Mode, modeOf}
+use Rattle.scms.specs.Mode.{Mode, modeOf, allCandidates}
 use Rattle.scms.specs.Decoder.{held, symbols, report, totals, count}
 use Rattle.decoder_refusal.specs.Refusals.{settingsOf}
 use Rattle.sheet.specs.CodeSheet.{sheetLayers, sheetMap, sheetCoefs, formTable, sheetRefusal}
@@ -115,14 +115,14 @@ fourFrame = zeroAt 1 1 ++ (zeroAt 2 2 ++ (zeroAt 4 3 ++ zeroAt 8 4))
 abbrev pub sheetRows : List Row
 sheetRows =
     let frame = zeroAt 33 3 ++ zeroAt 1 3 in
-    record { given = symbols (workedCode 2) (modeOf 13) frame; expected = 0 ∷ 33 ∷ [] }
-    ∷ record { given = report (workedCode 2) (modeOf 13) frame; expected = zeroAt 0 3 ++ zeroAt 33 6 }
-    ∷ record { given = totals (workedCode 2) (modeOf 13) frame; expected = 0 ∷ 0 ∷ [] }
-    ∷ record { given = count (workedCode 2) (modeOf 13) frame ∷ []; expected = 0 ∷ [] }
-    ∷ record { given = symbols (workedCode 2) (modeOf 2) frame; expected = 0 ∷ 33 ∷ [] }
-    ∷ record { given = report (workedCode 2) (modeOf 2) frame; expected = zeroAt 0 3 ++ zeroAt 33 3 }
-    ∷ record { given = totals (workedCode 2) (modeOf 2) frame; expected = 0 ∷ 0 ∷ [] }
-    ∷ record { given = count (workedCode 2) (modeOf 2) frame ∷ []; expected = 63 ∷ [] }
+    record { given = symbols (workedCode 2) (modeOf 13 allCandidates) frame; expected = 0 ∷ 33 ∷ [] }
+    ∷ record { given = report (workedCode 2) (modeOf 13 allCandidates) frame; expected = zeroAt 0 3 ++ zeroAt 33 6 }
+    ∷ record { given = totals (workedCode 2) (modeOf 13 allCandidates) frame; expected = 0 ∷ 0 ∷ [] }
+    ∷ record { given = count (workedCode 2) (modeOf 13 allCandidates) frame ∷ []; expected = 0 ∷ [] }
+    ∷ record { given = symbols (workedCode 2) (modeOf 2 allCandidates) frame; expected = 0 ∷ 33 ∷ [] }
+    ∷ record { given = report (workedCode 2) (modeOf 2 allCandidates) frame; expected = zeroAt 0 3 ++ zeroAt 33 3 }
+    ∷ record { given = totals (workedCode 2) (modeOf 2 allCandidates) frame; expected = 0 ∷ 0 ∷ [] }
+    ∷ record { given = count (workedCode 2) (modeOf 2 allCandidates) frame ∷ []; expected = 63 ∷ [] }
     ∷ []
 
 -- what is sent for the message 33 by that code with base 1 and amplitude 10
@@ -131,7 +131,7 @@ workedTransmission = record { code = workedCode 2; message = 33 ∷ []; base = 1
 
 -- it is received with gain 3/20 at these precisions
 abbrev pub workedReception : (qc qm : ℕ) → Reception
-workedReception qc qm = record { top = 3; bottom = 20; settings = settingsOf qc qm }
+workedReception qc qm = record { top = 3; bottom = 20; settings = settingsOf qc qm allCandidates }
 
 -- from end to end: the frame of that sheet is weighed from what is sent, at Qc = 5 and at Qc = 2, and the message is
 -- read from the symbols decided, 0 and 33
@@ -188,7 +188,7 @@ writtenRows =
 abbrev pub listingRows : List Row
 listingRows =
     let frame = zeroAt 33 3 ++ zeroAt 1 3 in
-    let llrs = held (workedCode 2) (modeOf 13) frame in
+    let llrs = held (workedCode 2) (modeOf 13 allCandidates) frame in
     let blanks : List ℕ = 32 ∷ 32 ∷ 32 ∷ 32 ∷ [] in
     record {
       given = sheetRefusal workedSheet (0 ∷ 0 ∷ []) (0 ∷ []) ∷ sheetLayers workedSheet ∷ [];
@@ -204,14 +204,14 @@ listingRows =
       given = placeLine 1 33 (llrs 1);
       expected = blanks ++ (49 ∷ 32 ∷ 32 ∷ 32 ∷ 51 ∷ 51 ∷ blanks ++ (48 ∷ blanks ++ (54 ∷ 10 ∷ [])));
     }
-    ∷ record { given = numberLine (count (workedCode 2) (modeOf 13) frame); expected = blanks ++ (48 ∷ 10 ∷ []) }
+    ∷ record { given = numberLine (count (workedCode 2) (modeOf 13 allCandidates) frame); expected = blanks ++ (48 ∷ 10 ∷ []) }
     ∷ []
 
 -- all rows
 abbrev pub rows : List Row
 rows =
-    productRows ++ (transformRows ++ (baseRows ++ (gainRows ++ (lostRows ++ (decoderRows (modeOf 1)
-    ++ (decoderRows (modeOf 13) ++ (sheetRows ++ (linkRows ++ (lineRows ++ (writtenRows ++ listingRows))))))))))
+    productRows ++ (transformRows ++ (baseRows ++ (gainRows ++ (lostRows ++ (decoderRows (modeOf 1 allCandidates)
+    ++ (decoderRows (modeOf 13 allCandidates) ++ (sheetRows ++ (linkRows ++ (lineRows ++ (writtenRows ++ listingRows))))))))))
 
 -- a code and a message sent with base 1 and amplitude 10
 abbrev pub sentBy : Code → (message : List ℕ) → Transmission
@@ -219,7 +219,7 @@ sentBy code message = record { code = code; message = message; base = 1; amplitu
 
 -- received with gain 1 over `bottom` at Qc = 3
 abbrev pub receivedBy : (bottom qm : ℕ) → Reception
-receivedBy bottom qm = record { top = 1; bottom = bottom; settings = settingsOf 3 qm }
+receivedBy bottom qm = record { top = 1; bottom = bottom; settings = settingsOf 3 qm allCandidates }
 
 -- the claim over the whole table: every row's two sides are the same; those samples are what is sent for symbol 0 with
 -- amplitude 10; and with base 1, amplitude 10 and Qc 3 the noiseless statement's premise fails for gain 1/40 and holds
@@ -235,4 +235,4 @@ pub record Worked : Type 0 where
       → NoiselessPremise (sentBy code message) (receivedBy 20 qm)
   pub nine-gives-1 : (rest frozen cs : List ℕ) → sheetRefusal (firstLine 32 57 ++ rest) frozen cs ≡ 1
   pub zero-eight-gives-12 : (rest frozen cs : List ℕ) → sheetRefusal (firstLine 48 56 ++ rest) frozen cs ≡ 12
-  pub totals-of-four : totals fourCode (modeOf 13) fourFrame ≡ 0 ∷ 1 ∷ 3 ∷ 6 ∷ []
+  pub totals-of-four : totals fourCode (modeOf 13 allCandidates) fourFrame ≡ 0 ∷ 1 ∷ 3 ∷ 6 ∷ []

@@ -65,7 +65,7 @@ module _ (s : Transmission) (r : Reception) (lent : TripLent) where
       let rooms = lengths .1 .1 .1 in
       let decoder = rooms .1 .1 .1 in
       let precisions = parts .1 in
-      let bytes = precisions .1 .1 in
+      let bytes = precisions .1 .1 .1 in
       let sent = bytes .1 .1 .1 in
       record {
         chain = record {
@@ -80,6 +80,7 @@ module _ (s : Transmission) (r : Reception) (lent : TripLent) where
           gain-bottom = inside-within 1 255 (r .bottom) (sent .1 .1 .1 .0);
           channel-precision = inside-within 1 5 (r .settings .qc) (precisions .0);
           internal-precision = inside-within (r .settings .qc) 13 (r .settings .qm) (precisions .1 .0);
+          candidates-fit = inside-within 1 64 (r .settings .candidates) (precisions .1 .1 .0);
         };
         samples-long = false-equal (length (lent .samples)) (64 * size) (rooms .1 .0);
         frame-long = false-equal (length (lent .frame)) (64 * size) (rooms .1 .1 .0);
@@ -103,12 +104,13 @@ module _ (s : Transmission) (r : Reception) (lent : TripLent) where
       = (samples-room, (frame-room, (decoder .0, (decoder .1 .0, (decoder .1 .1 .0, (decoder .1 .1 .1 .0, (decoded-room, tt))))))) in
       let qc-fits = within-inside 1 5 (r .settings .qc) (c .channel-precision) in
       let qm-fits = within-inside (r .settings .qc) 13 (r .settings .qm) (c .internal-precision) in
+      let number-fits = within-inside 1 64 (r .settings .candidates) (c .candidates-fit) in
       let bytes = code-bytes (s .code) (k .is-code) in
       let small = within-none 0 63 0 (s .message) (k .message-symbols) in
       let turns = ne-eqb (turned (s .base) 32) (s .base) (k .base-turns) in
       let top-fits = within-inside 1 255 (r .top) (c .gain-top) in
       let bottom-fits = within-inside 1 255 (r .bottom) (c .gain-bottom) in
       let amplitude-fits = within-inside 1 127 (s .amplitude) (k .amplitude-fits) in
-      let sent : NoneFits (drop 5 contents) = (small, (turns, (top-fits, (bottom-fits, (amplitude-fits, tt))))) in
+      let sent : NoneFits (drop 6 contents) = (small, (turns, (top-fits, (bottom-fits, (amplitude-fits, tt))))) in
       both-accepted sizes contents (lengths .0, (lengths .1 .0, (lengths .1 .1 .0, (message-fits, buffers))))
-      (qc-fits, (qm-fits, (bytes .0, (bytes .1 .0, (bytes .1 .1 .0, sent)))))
+      (qc-fits, (qm-fits, (number-fits, (bytes .0, (bytes .1 .0, (bytes .1 .1 .0, sent))))))

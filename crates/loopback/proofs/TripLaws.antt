@@ -31,7 +31,7 @@ module _ (s : Transmission) (r : Reception) (lent : TripLent) where
 
   -- what the decoder's nodes go by
   abbrev mode : Mode
-  mode = modeOf (r .settings .qm)
+  mode = modeOf (r .settings .qm) (r .settings .candidates)
 
   -- the promise from its equations and what `decode` promises: what else it says is the noiseless statement
   promise : {after : TripLent} {a : Answer} → returned a ≡ tripAnswer s r lent
@@ -121,7 +121,7 @@ module _ (s : Transmission) (r : Reception) (lent : TripLent) where
       decode-accepts : decodeRefusal (s .code) (r .settings) frame′ (lent .decoder) ≡ 0
       decode-accepts =
           frame-accepted (s .base) (r .top) (r .bottom) samples′ (lent .frame) frame′ (s .code) (r .settings) (lent .decoder) .accepted demapped-so
-          (t .chain .sendable .is-code) (long ∙ t .samples-long) (t .chain .internal-precision) (t .buffers)
+          (t .chain .sendable .is-code) (long ∙ t .samples-long) (t .chain .internal-precision) (t .chain .candidates-fit) (t .buffers)
 
       -- after `decode` and `read_message`: all that is promised
       pub promise-accepted : {after : Lent} {decoded′ : List ℕ} {a : Answer} → Decoded (s .code) (r .settings) frame′ (lent .decoder) after a

@@ -1,5 +1,5 @@
 -- By which number a call of `round_trip` is refused: the rows of document 01's table 'Refused' that it has the input
--- for, and one more.
+-- for, and two more.
 use Prim.Native.Nat.{ℕ, _*_, _^_}
 use mathlib.Core.Path.{_≡_}
 use mathlib.Core.List.{List, [], _∷_, _++_}
@@ -45,7 +45,7 @@ tripRows places s lent =
 abbrev pub sizeTable : Transmission → TripLent → List Row
 sizeTable s lent = codeSizes (s .code) ++ tripRows (2 ^ s .code .n) s lent
 
--- the rows on the precisions, the code, the message, the base, the gain and the amplitude
+-- the rows on the settings, the code, the message, the base, the gain and the amplitude
 abbrev pub contentTable : Transmission → Reception → List Row
 contentTable s r =
     codeRows (s .code .map) (s .code .coefs) (r .settings)

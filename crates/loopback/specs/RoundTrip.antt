@@ -26,15 +26,15 @@ module _ (s : Transmission) (r : Reception) (lent : TripLent) where
   abbrev pub Accepted : Type 0
   Accepted = refusal ≡ 0
 
-  -- what the decoder's nodes go by: the cap, 2^Qm − 1
+  -- what the decoder's nodes go by: the cap, 2^Qm − 1, and how many values a check node tries
   abbrev mode : Mode
-  mode = modeOf (r .settings .qm)
+  mode = modeOf (r .settings .qm) (r .settings .candidates)
 
   -- what is made where the call is accepted, or on a refusal what is kept
   abbrev either : {A : Type 0} → A → A → A
   either made kept = cond (eqb refusal 0) made kept
 
-  -- the answer: the refusal, a number of document 01's table or 19, or the decoder's count of clipped entries
+  -- the answer: the refusal, a number of document 01's table, 13 or 19, or the decoder's count of clipped entries
   unfoldable pub tripAnswer : Returned
   tripAnswer = record { number = refusal; values = either (scms.count (s .code) mode (messageFrame s r) ∷ []) [] }
 

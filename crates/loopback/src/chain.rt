@@ -68,12 +68,13 @@ fn send(
 
 // Sends a message without noise and decodes what is received: encodes it by the code with n layers, this map and these
 // coefficients, spreads it by the base, makes the samples +A and -A of an amplitude A from 1 to 127, weighs them with
-// the gain top over bottom at the precision qc, decodes at the internal precision qm, and reads the message from the
-// symbols decided. A probe and a receiver can run it to test themselves: the caller compares the decoded message with
-// the message. Answers what `decode` answers for that frame, with the samples, the frame, the decoder's symbols, report
-// and totals and the decoded message in the buffers lent for them, and the work buffer all zeros; or the lowest refusal
-// of 1, 2, 3, 4, 5, 6, 7, 10, 11 and 19 (the amplitude) that fits, and every buffer as it came. The decoded message is
-// the message where each wrong symbol's penalty is still at least 1 after rounding. That is where, for every shift from
+// the gain top over bottom at the precision qc, decodes at the internal precision qm with check nodes that try as many
+// values as `candidates` says, and reads the message from the symbols decided. A probe and a receiver can run it to test
+// themselves: the caller compares the decoded message with the message. Answers what `decode` answers for that frame,
+// with the samples, the frame, the decoder's symbols, report and totals and the decoded message in the buffers lent for
+// them, and the work buffer all zeros; or the first refusal of 1, 2, 3, 13, 4, 5, 6, 7, 10, 11 and 19 (the amplitude)
+// that fits, in this order, and every buffer as it came. The decoded message is the message, for every number of
+// candidates, where each wrong symbol's penalty is still at least 1 after rounding. That is where, for every shift from
 // 1 to 63, top x A x the number of chips in which it differs from shift 0 is at least bottom; for every base that is
 // not refused 2 x A x top >= bottom is enough.
 pub fn round_trip(
@@ -87,6 +88,7 @@ pub fn round_trip(
     bottom: u32,
     qc: u32,
     qm: u32,
+    candidates: u32,
     samples: &mut [i8],
     frame: &mut [u16],
     work: &mut [u16],
@@ -97,7 +99,7 @@ pub fn round_trip(
 ) -> Answer
     ensures { λ r. ⌜ RoundTrip
         (transmissionOf n (now (map .entry)) (now (coefs .entry)) (now (message .entry)) base amplitude)
-        (receptionOf top bottom qc qm)
+        (receptionOf top bottom qc qm candidates)
         (tripLentOf (now (samples .entry)) (now (frame .entry)) (now (work .entry)) (now (symbols .entry))
         (now (report .entry)) (now (totals .entry)) (now (decoded .entry)))
         (tripLentOf (now (samples .exit)) (now (frame .exit)) (now (work .exit)) (now (symbols .exit))
@@ -114,6 +116,7 @@ pub fn round_trip(
         bottom,
         qc,
         qm,
+        candidates,
         samples,
         frame,
         work,
@@ -127,7 +130,19 @@ pub fn round_trip(
     }
     send(n, map, coefs, message, base, amplitude, samples);
     demapper::demap(base, samples, top, bottom, qc, frame);
-    let answer = decoder::decode(n, map, coefs, qc, qm, frame, work, symbols, report, totals);
+    let answer = decoder::decode(
+        n,
+        map,
+        coefs,
+        qc,
+        qm,
+        candidates,
+        frame,
+        work,
+        symbols,
+        report,
+        totals,
+    );
     read_message(map, symbols, decoded);
     answer
 }

@@ -36,7 +36,7 @@ fn size_refusal(
     refusal::first(r, 2, decoded.len() != places)
 }
 
-// The refusal by the precisions, the code's bytes, the message, the base, the gain and the amplitude, 0 where none of
+// The refusal by the settings, the code's bytes, the message, the base, the gain and the amplitude, 0 where none of
 // them is wrong.
 fn content_refusal(
     map: &[u8],
@@ -48,13 +48,13 @@ fn content_refusal(
     bottom: u32,
     qc: u32,
     qm: u32,
+    candidates: u32,
 ) -> u8
     ensures { λ r. ⌜ r ≡ refusalOf (contentTable
         (transmissionOf 0 (now (map .entry)) (now (coefs .entry)) (now (message .entry)) base amplitude)
-        (receptionOf top bottom qc qm)) ⌝ }
+        (receptionOf top bottom qc qm candidates)) ⌝ }
 {
-    let r = refusal::first(0, 3, refusal::is_outside(qc, 1, 5));
-    let r = refusal::first(r, 3, refusal::is_outside(qm, qc, 13));
+    let r = decoder_refusal::settings_refusal(qc, qm, candidates);
     let r = refusal::or_else(r, polar_code::code_refusal(map, coefs));
     let r = refusal::first(r, 7, refusal::any_outside(message, 0, 63));
     let r = refusal::first(r, 10, ccsk::turned(base, 32) == base);
@@ -76,6 +76,7 @@ pub(crate) fn trip_refusal(
     bottom: u32,
     qc: u32,
     qm: u32,
+    candidates: u32,
     samples: &[i8],
     frame: &[u16],
     work: &[u16],
@@ -86,7 +87,7 @@ pub(crate) fn trip_refusal(
 ) -> u8
     ensures { λ r. ⌜ r ≡ tripRefusal
         (transmissionOf n (now (map .entry)) (now (coefs .entry)) (now (message .entry)) base amplitude)
-        (receptionOf top bottom qc qm)
+        (receptionOf top bottom qc qm candidates)
         (tripLentOf (now (samples .entry)) (now (frame .entry)) (now (work .entry)) (now (symbols .entry))
         (now (report .entry)) (now (totals .entry)) (now (decoded .entry))) ⌝ }
 {
@@ -106,5 +107,7 @@ pub(crate) fn trip_refusal(
     if refused != 0 {
         return refused;
     }
-    content_refusal(map, coefs, message, base, amplitude, top, bottom, qc, qm)
+    content_refusal(
+        map, coefs, message, base, amplitude, top, bottom, qc, qm, candidates,
+    )
 }

@@ -65,21 +65,22 @@ module _ (code : Code) (frame output : List ℕ) where
 
   module _ (lent : Lent) (given : Decoding code frame output lent) where
     -- the decoder does not refuse such an input
-    decodes : decodeRefusal code (settingsOf 5 13) frame lent ≡ 0
+    decodes : decodeRefusal code (settingsOf 5 13 64) frame lent ≡ 0
     decodes =
         let listable = given .listable in
-        decoder-accepts code (settingsOf 5 13) frame lent
+        decoder-accepts code (settingsOf 5 13 64) frame lent
         (record {
           is-code = listable .is-code;
           frame-long = listable .frame-long;
           buffers = given .buffers;
           channel-precision = record { least = lit≤ tt; most = lit≤ tt };
           internal-precision = record { least = lit≤ tt; most = lit≤ tt };
+          candidates-fit = record { least = lit≤ tt; most = lit≤ tt };
           is-frame = listable .is-frame;
         })
 
     -- what it leaves makes the listing
-    pub listing-made : {after : Lent} {a : Answer} → Decoded code (settingsOf 5 13) frame lent after a
+    pub listing-made : {after : Lent} {a : Answer} → Decoded code (settingsOf 5 13 64) frame lent after a
         → length (after .symbols) ≡ length (lent .symbols)
         → (count : ℕ) → count ≡ getD (returned a .values) 0 0
         → listingOf (after .symbols) (after .report) count ≡ programListing code frame

@@ -10,7 +10,7 @@ use Rattle.refusal.specs.Rows.{lengthRow}
 use Rattle.vector.specs.Vector.{joined}
 use Rattle.vector.specs.Frame.{IsFrame}
 use Rattle.polar_code.specs.Code.{Code, codeSizes, codeTable, IsCode}
-use Rattle.scms.specs.Mode.{Mode, modeOf}
+use Rattle.scms.specs.Mode.{Mode, modeOf, allCandidates}
 use Rattle.scms.specs.Decoder as scms
 use Rattle.decoder_refusal.specs.Refusals.{penaltyTable}
 use Rattle.listing.specs.Listing.{placeLine, numberLine}
@@ -20,9 +20,9 @@ abbrev pub listingLength : ℕ → ℕ
 listingLength places = 21 * places + 6
 
 module _ (code : Code) (frame : List ℕ) where
-  -- the program decodes with Qm = 13
+  -- the program decodes with Qm = 13 and full check nodes
   abbrev mode : Mode
-  mode = modeOf 13
+  mode = modeOf 13 allCandidates
 
   -- the line of place i: the symbol decided there, and the penalties held for its values when it was decided
   abbrev pub lineAt : ℕ → List ℕ

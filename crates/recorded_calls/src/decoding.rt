@@ -28,6 +28,7 @@ pub(crate) fn run_decode(
     let mut totals = [0u16; PLACES];
     let qc = next_u32();
     let qm = next_u32();
+    let candidates = next_u32();
     let frame = take_words(frame);
     let work = take_words(&mut work);
     let symbols = take_bytes(symbols);
@@ -36,7 +37,9 @@ pub(crate) fn run_decode(
     if !ended() {
         return false;
     }
-    print_count(decoder::decode(n, map, coefs, qc, qm, frame, work, symbols, report, totals));
+    print_count(decoder::decode(
+        n, map, coefs, qc, qm, candidates, frame, work, symbols, report, totals,
+    ));
     print_words(work);
     print_bytes(symbols);
     print_words(report);
@@ -70,6 +73,7 @@ struct Link {
     bottom: u32,
     qc: u32,
     qm: u32,
+    candidates: u32,
 }
 
 // Reads these numbers.
@@ -80,6 +84,7 @@ fn next_link() -> Link {
     let bottom = next_u32();
     let qc = next_u32();
     let qm = next_u32();
+    let candidates = next_u32();
     Link {
         base,
         amplitude,
@@ -87,6 +92,7 @@ fn next_link() -> Link {
         bottom,
         qc,
         qm,
+        candidates,
     }
 }
 
@@ -116,6 +122,7 @@ fn trip_line(
         link.bottom,
         link.qc,
         link.qm,
+        link.candidates,
         samples,
         frame,
         work,

@@ -12,12 +12,12 @@ use Rattle.polar.specs.Tree.{Tree, map2, treeSum, All, All2, treeOf, number}
 use Rattle.polar.specs.Halves.{Coefs, join, transformTree, coefsAt}
 use Rattle.polar.proofs.TreeLaws.{number-lt, all2-by, treeOf-at}
 use Rattle.polar.proofs.OneToOne.{Symbol, AllNonZero, transform-symbols, coefs-nonzero}
-use Rattle.scms.specs.Mode.{Mode}
+use Rattle.scms.specs.Mode.{Mode, Full}
 use Rattle.scms.specs.Decision.{decision}
 use Rattle.scms.specs.Decoder.{symbols, count}
 use Rattle.scms.specs.Totals.{total, Least, InCode, FrozenFirst, Unclipped}
 use Rattle.scms.specs.Claims.{BestWord}
-use Rattle.scms.specs.Halves.{Vectors, checkNodes, variableNodes, clippedNodes, decodeTree, frameTree, decodeHalves}
+use Rattle.scms.specs.Halves.{Vectors, checkNodes, variableNodes, clippedNodes, decodeTree, frameTree, decodeHalves, decodeTreeBy}
 use Rattle.scms.proofs.DecisionLaws.{smallest-least, decision-lt, decision-frozen, decision-message, KindCases, kind-cases}
 use Rattle.scms.proofs.AnswerLaws.{symbols-word, symbol-decided}
 use Rattle.scms.proofs.ByHalves.{same-answer, halves-unclipped}
@@ -29,10 +29,10 @@ use Rattle.scms.proofs.FrozenPlaces.{IsFrozen, IsMessage, Holds, FirstF
 
 -- what the decoder by halves answers is a word of the code
 decoded-holds : (m : ℕ) (mode : Mode) (k : Coefs m) (map : Tree ℕ m) (f : Vectors m) → All2 m Holds map (decodeTree m mode k map f .symbols)
-unfolding All2 decodeTree
+unfolding All2 decodeTreeBy
 decoded-holds zero mode k map f = λ s e. decision-frozen (kindOf map) f s e
 decoded-holds (suc m) mode k map f =
-    let c = checkNodes m (k .0) (f .0) (f .1) in (
+    let c = checkNodes m (mode .candidates) (k .0) (f .0) (f .1) in (
       decoded-holds m mode (k .1) (map .0) c,
       decoded-holds m mode (k .2) (map .1) (variableNodes m (mode .cap) (k .0) (f .0) (f .1) (decodeTree m mode (k .1) (map .0) c .word)),
     )
@@ -47,7 +47,7 @@ least-unique P f t r l k =
     le-antisymm (le-trans (l .bound (k .by) (k .meets)) (le-of-eq (k .gives))) (le-trans (k .bound (l .by) (l .meets)) (le-of-eq (l .gives)))
 
 -- one layer, given the least over the second half with the first as decided, s: t, the total of the word decided
-module _ (m : ℕ) (mode : Mode) (k : Coefs (suc m)) (map : Tree ℕ (suc m)) (f : Vectors (suc m)) (nz : AllNonZero (suc m) k)
+module _ (m : ℕ) (mode : Mode) (full : Full mode) (k : Coefs (suc m)) (map : Tree ℕ (suc m)) (f : Vectors (suc m)) (nz : AllNonZero (suc m) k)
     (s : Tree ℕ m) (ls : All m Symbol s) (hs : All2 m Holds (map .0) s) (t : ℕ)
     (second : Least (Words (suc m) (λ u. (u .0 ≡ s) × All2 m Holds (map .1) (u .1))) (sentTotal (suc m) k f) t) where
   -- the words of the code
@@ -64,13 +64,13 @@ module _ (m : ℕ) (mode : Mode) (k : Coefs (suc m)) (map : Tree ℕ (suc m)) (f
 
   -- the second half is all message places: the check nodes' least over the first half is attained at s
   second-message : All m IsMessage (map .1)
-      → Least (Words m (All2 m Holds (map .0))) (sentTotal m (k .1) (checkNodes m (k .0) (f .0) (f .1))) (sentTotal m (k .1) (checkNodes m (k .0) (f .0) (f .1)) s)
+      → Least (Words m (All2 m Holds (map .0))) (sentTotal m (k .1) (checkNodes m (mode .candidates) (k .0) (f .0) (f .1))) (sentTotal m (k .1) (checkNodes m (mode .candidates) (k .0) (f .0) (f .1)) s)
       → Least CodeWords (sentTotal (suc m) k f) t
   unfolding All2
   second-message h first =
-      let g = sentTotal m (k .1) (checkNodes m (k .0) (f .0) (f .1)) in
-      let p = least-check m mode k f nz (All2 m Holds (map .0)) (g s) first in
-      let q = least-check m mode k f nz (λ u. u ≡ s) (g s)
+      let g = sentTotal m (k .1) (checkNodes m (mode .candidates) (k .0) (f .0) (f .1)) in
+      let p = least-check m mode k f nz full (All2 m Holds (map .0)) (g s) first in
+      let q = least-check m mode k f nz full (λ u. u ≡ s) (g s)
       (record { by = s; meets = (ls, refl); gives = refl; bound = λ u a. le-of-eq (ap g (sym (a .1))) }) in
       let e = least-unique (Words (suc m) (λ u. u .0 ≡ s)) (sentTotal (suc m) k f) (g s) t q
       (least-same (λ u a. (a .0, a .1 .0)) (λ u a. (a .0, (a .1, message-all m (map .1) (u .1) h))) second) in
@@ -96,12 +96,12 @@ leaf-least byte v = go (kind-cases (kindOf byte))
     }
 
 -- by halves
-tree-best : (m : ℕ) (mode : Mode) (k : Coefs m) (map : Tree ℕ m) (f : Vectors m) → AllNonZero m k → FirstFrozen m map → decodeTree m mode k map f .count ≡ 0
+tree-best : (m : ℕ) (mode : Mode) (k : Coefs m) (map : Tree ℕ m) (f : Vectors m) → Full mode → AllNonZero m k → FirstFrozen m map → decodeTree m mode k map f .count ≡ 0
     → Least (Words m (All2 m Holds map)) (sentTotal m k f) (treeTotal m f (decodeTree m mode k map f .word))
-unfolding All All2 AllNonZero decodeTree transformTree join treeTotal treeSum map2 FirstFrozen
-tree-best zero mode k map f nz ff e = leaf-least map f
-tree-best (suc m) mode k map f nz ff e =
-    let c = checkNodes m (k .0) (f .0) (f .1) in
+unfolding All All2 AllNonZero decodeTreeBy transformTree join treeTotal treeSum map2 FirstFrozen
+tree-best zero mode k map f full nz ff e = leaf-least map f
+tree-best (suc m) mode k map f full nz ff e =
+    let c = checkNodes m (mode .candidates) (k .0) (f .0) (f .1) in
     let a = decodeTree m mode (k .1) (map .0) c in
     let v = variableNodes m (mode .cap) (k .0) (f .0) (f .1) (a .word) in
     let b = decodeTree m mode (k .2) (map .1) v in
@@ -116,12 +116,12 @@ tree-best (suc m) mode k map f nz ff e =
     let whole = variable-total m (mode .cap) (k .0) (f .0) (f .1) (a .word) (b .word) en lb in
     let second : FirstFrozen m (map .1) → Least (Words (suc m) (λ u. (u .0 ≡ a .symbols) × All2 m Holds (map .1) (u .1))) (sentTotal (suc m) k f) t
     = λ fs. subst (Least (Words (suc m) (λ u. (u .0 ≡ a .symbols) × All2 m Holds (map .1) (u .1))) (sentTotal (suc m) k f)) whole
-    (least-variable m mode k f nz (a .symbols) (a .word) ls wa en (All2 m Holds (map .1)) (treeTotal m v (b .word)) (tree-best m mode (k .2) (map .1) v (nz .2) fs eb)) in
+    (least-variable m mode k f nz (a .symbols) (a .word) ls wa en (All2 m Holds (map .1)) (treeTotal m v (b .word)) (tree-best m mode (k .2) (map .1) v full (nz .2) fs eb)) in
     let hs = decoded-holds m mode (k .1) (map .0) c in
-    let first = tree-best m mode (k .1) (map .0) c (nz .1) in
+    let first = tree-best m mode (k .1) (map .0) c full (nz .1) in
     either ff
-    (λ h fs. first-frozen m mode k map f nz (a .symbols) ls hs t (second fs) h)
-    (λ fs h. second-message m mode k map f nz (a .symbols) ls hs t (second (message-first m (map .1) h)) h
+    (λ h fs. first-frozen m mode full k map f nz (a .symbols) ls hs t (second fs) h)
+    (λ fs h. second-message m mode full k map f nz (a .symbols) ls hs t (second (message-first m (map .1) h)) h
     (subst (λ (x : Tree ℕ m). Least (Words m (All2 m Holds (map .0))) (sentTotal m (k .1) c) (treeTotal m c x)) wa (first fs ea)))
   where
     either : {A B C D E : Type 0} → (A × B) ⊎ (C × D) → (A → B → E) → (C → D → E) → E
@@ -154,13 +154,13 @@ module _ (code : Code) (mode : Mode) (frame : List ℕ) where
       treeOf-at 0 u p ∙ c .holds (number p) f (number-lt p) (ap kindOf (sym (treeOf-at 0 map p)) ∙ e))
 
   -- no word of the code has a smaller total
-  pub best-word : Coefficients cs → Unclipped code mode frame → FrozenFirst code → BestWord code mode frame
+  pub best-word : Full mode → Coefficients cs → Unclipped code mode frame → FrozenFirst code → BestWord code mode frame
   unfolding decodeHalves
-  best-word g un ff =
+  best-word full g un ff =
       let k = coefsAt n 0 (2 ^ n / 2) cs in
       let a = decodeHalves code mode frame in
       let same = same-answer code mode frame in
-      let l = tree-best n mode k (treeOf 0 n map) (frameTree n frame) (coefs-nonzero n 0 (2 ^ n / 2) cs g) (first-of n map ff) (halves-unclipped code mode frame un) in
+      let l = tree-best n mode k (treeOf 0 n map) (frameTree n frame) full (coefs-nonzero n 0 (2 ^ n / 2) cs g) (first-of n map ff) (halves-unclipped code mode frame un) in
       let t : total n frame (transform n cs (symbols code mode frame)) ≡ treeTotal n (frameTree n frame) (a .word)
       = ap (λ (x : List ℕ). total n frame (transform n cs x)) (sym (same .same-symbols)) ∙ sent-leaves n cs frame (a .symbols)
       ∙ ap (treeTotal n (frameTree n frame)) (sym (word-transform n mode k (treeOf 0 n map) (frameTree n frame))) in

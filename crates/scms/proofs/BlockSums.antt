@@ -15,9 +15,9 @@ use Rattle.polar.proofs.Numbers.{two-pow, half-pow}
 use Rattle.polar.proofs.TreeLaws.{number-lt, map3-at, map4-at, ext-at}
 use Rattle.polar.proofs.Windows.{window, block-coefs}
 use Rattle.scms.specs.Mode.{Mode}
-use Rattle.scms.specs.Nodes.{checkNode, variableNode, lowered, clippedEntries}
+use Rattle.scms.specs.Nodes.{checkNodeBy, variableNode, lowered, clippedEntries}
 use Rattle.scms.specs.Decoder.{thetaSymbol, vectors, thetaVector, phiVector, loweredAt, clippedAt, takenIn}
-use Rattle.scms.specs.Halves.{Vectors, checkNodes, variableNodes, clippedNodes, takenNodes}
+use Rattle.scms.specs.Halves.{Vectors, checkNodes, variableNodes, clippedNodes, takenNodes, checkNodesBy}
 use Rattle.scms.proofs.TreeSums.{tree-sum}
 use Rattle.scms.proofs.Blocks.{theta-in-block, phi-in-block, u-in-block, check-of, variable-of}
 
@@ -190,10 +190,10 @@ module _ (code : Code) (mode : Mode) (frame r : List ℕ) where
 
       module _ (fits : o + (2 ^ m + 2 ^ m) ≤ 2 ^ n) where
         -- the vectors of the first half
-        pub checks : window [] m o (vs (suc d)) ≡ checkNodes m hs F G
-        unfolding checkNodes
-        checks = ext-at m (window [] m o (vs (suc d))) (map3 m checkNode hs F G) (λ p.
-            check-of code mode frame r d m w o e eo fits p ∙ ap (λ (h : ℕ). checkNode h (at F p) (at G p)) (coefs p) ∙ sym (map3-at checkNode p hs F G))
+        pub checks : window [] m o (vs (suc d)) ≡ checkNodes m (mode .candidates) hs F G
+        unfolding checkNodesBy
+        checks = ext-at m (window [] m o (vs (suc d))) (map3 m (checkNodeBy (mode .candidates)) hs F G) (λ p.
+            check-of code mode frame r d m w o e eo fits p ∙ ap (λ (h : ℕ). checkNodeBy (mode .candidates) h (at F p) (at G p)) (coefs p) ∙ sym (map3-at (checkNodeBy (mode .candidates)) p hs F G))
 
         -- and of the second
         pub variables : window [] m (o + 2 ^ m) (vs (suc d)) ≡ variableNodes m cap hs F G U

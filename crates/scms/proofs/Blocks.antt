@@ -13,7 +13,7 @@ use Rattle.polar.proofs.TreeLaws.{number-lt}
 use Rattle.polar.proofs.Kernels.{theta-is, phi-is}
 use Rattle.polar.proofs.Windows.{window, window-at, first-made, second-made}
 use Rattle.scms.specs.Mode.{Mode}
-use Rattle.scms.specs.Nodes.{checkNode, variableNode}
+use Rattle.scms.specs.Nodes.{checkNodeBy, variableNode}
 use Rattle.scms.specs.Decoder.{nodes, thetaSymbol, vectors, thetaVector, phiVector}
 use Rattle.scms.proofs.VectorLaws.{vectors-long, theta-from, phi-from}
 
@@ -76,7 +76,7 @@ module _ (code : Code) (mode : Mode) (frame s : List ℕ) (d m w o : ℕ) (e : d
   module _ (fits : o + (2 ^ m + 2 ^ m) ≤ 2 ^ n) (p : Place m) where
     -- what kernel i makes at θ
     abbrev hs : ℕ → List ℕ → List ℕ → List ℕ
-    hs i v y = checkNode (coefficient n (suc d) i cs) v y
+    hs i v y = checkNodeBy (mode .candidates) (coefficient n (suc d) i cs) v y
 
     -- and at φ
     abbrev gs : ℕ → List ℕ → List ℕ → List ℕ
@@ -88,10 +88,10 @@ module _ (code : Code) (mode : Mode) (frame s : List ℕ) (d m w o : ℕ) (e : d
 
     -- the first half's vectors are made by check nodes
     pub check-of : at (window [] m o (vectors code mode frame s (suc d))) p
-        ≡ checkNode (coefficient n (suc d) (t p) cs) (at (window [] m o vs) p) (at (window [] m (o + 2 ^ m) vs) p)
+        ≡ checkNodeBy (mode .candidates) (coefficient n (suc d) (t p) cs) (at (window [] m o vs) p) (at (window [] m (o + 2 ^ m) vs) p)
     unfolding vectors nodes
     check-of = subst (λ (k : ℕ). at (window [] m k (vectors code mode frame s (suc d))) p
-        ≡ checkNode (coefficient n (suc d) (t p) cs) (at (window [] m k vs) p) (at (window [] m (k + 2 ^ m) vs) p)) (sym eo)
+        ≡ checkNodeBy (mode .candidates) (coefficient n (suc d) (t p) cs) (at (window [] m k vs) p) (at (window [] m (k + 2 ^ m) vs) p)) (sym eo)
         (first-made n d m w e fits-at [] hs gs vs (vectors-long code mode frame s d) p)
 
     -- the second half's by variable nodes

@@ -13,7 +13,7 @@ use Rattle.polar_code.specs.Code.{Code, Coefficients, IsWord}
 use Rattle.polar.specs.Transform.{theta, phi, coefficient}
 use Rattle.polar.proofs.Kernels.{theta-lt, phi-lt}
 use Rattle.polar.proofs.Numbers.{two-pow}
-use Rattle.scms.specs.Mode.{Mode}
+use Rattle.scms.specs.Mode.{Mode, TriesOne}
 use Rattle.scms.specs.Nodes.{lowered}
 use Rattle.scms.specs.Decoder.{thetaSymbol, thetaVector, phiVector, loweredAt}
 use Rattle.scms.specs.Totals.{EachZero, EachAtMost}
@@ -25,7 +25,7 @@ use Rattle.scms.proofs.VectorLaws.{coefficient-nonzero, theta-from, phi
 pub twice : (most d : ℕ) → most * 2 ^ suc d ≡ most * 2 ^ d + most * 2 ^ d
 twice most d = ap (λ (x : ℕ). most * x) (two-pow d) ∙ mul-add most (2 ^ d) (2 ^ d)
 
-module _ (code : Code) (mode : Mode) (frame s : List ℕ) (g : Coefficients (code .coefs))
+module _ (code : Code) (mode : Mode) (frame s : List ℕ) (one : TriesOne mode) (g : Coefficients (code .coefs))
     (z : EachZero (code .n) frame) where
   -- the number of layers
   abbrev n : ℕ
@@ -46,14 +46,14 @@ module _ (code : Code) (mode : Mode) (frame s : List ℕ) (g : Coefficients (cod
   -- every vector holds a 0, clipped or not
   pub vector-zero : (d : ℕ) → d ≤ n → (j : ℕ) → j < 2 ^ n → HasZero (here d j)
   vector-zero = each-layer code mode frame s (λ d j v. HasZero v) z
-      (λ d m e t lt zv zw. (check-zero _ _ _ (coefficient-nonzero n (suc d) t cs g) zv zw, variable-zero _ _ _ _ _))
+      (λ d m e t lt zv zw. (check-zero _ _ _ _ one (coefficient-nonzero n (suc d) t cs g) zv zw, variable-zero _ _ _ _ _))
 
   -- where the frame's entries are at most the cap, so is every entry of every vector: a check node needs no cap
   vector-cap : EachAtMost n cap frame → (d : ℕ) → d ≤ n → (j : ℕ) → j < 2 ^ n → AtMost cap (here d j)
   vector-cap mf d l j lj = each-layer code mode frame s (λ d j v. HasZero v × AtMost cap v) (λ j lj. (z j lj, mf j lj))
       (λ d m e t lt p q.
       let nz = coefficient-nonzero n (suc d) t cs g in
-      ((check-zero _ _ _ nz (p .0) (q .0), check-most _ _ _ _ nz (p .1) (q .0)), (variable-zero _ _ _ _ _, variable-cap _ _ _ _ _))) d l j lj .1
+      ((check-zero _ _ _ _ one nz (p .0) (q .0), check-most _ _ _ _ _ one nz (p .1) (q .0)), (variable-zero _ _ _ _ _, variable-cap _ _ _ _ _))) d l j lj .1
 
   -- both, and what follows for sums
   pub fits : EachAtMost n cap frame → Fits code mode frame s
@@ -90,7 +90,7 @@ module _ (code : Code) (mode : Mode) (frame s : List ℕ) (g : Coefficients (cod
         (λ j lj. (z j lj, λ b lb. le-trans (mf j lj b lb) (le-of-eq (sym (mul-one most)))))
         (λ d m e t lt p q.
         let nz = coefficient-nonzero n (suc d) t cs g in (
-          (check-zero _ _ _ nz (p .0) (q .0), λ b lb. le-trans (check-most _ _ _ _ nz (p .1) (q .0) b lb) (mul-le-mul (le-refl most) (pow-mono {i = d} {j = suc d} (omega arith)))),
+          (check-zero _ _ _ _ one nz (p .0) (q .0), λ b lb. le-trans (check-most _ _ _ _ _ one nz (p .1) (q .0) b lb) (mul-le-mul (le-refl most) (pow-mono {i = d} {j = suc d} (omega arith)))),
           (variable-zero _ _ _ _ _, variable-most _ _ _ _ _ _ (rest-bound d m e t lt (p .1) (q .1))),
         )) d l j lj .1
 

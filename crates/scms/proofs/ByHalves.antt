@@ -19,7 +19,7 @@ use Rattle.polar.proofs.ByHalves.{block-halves, by-halves}
 use Rattle.scms.specs.Mode.{Mode}
 use Rattle.scms.specs.Decision.{decision}
 use Rattle.scms.specs.Decoder.{vectors, loweredAt, clippedAt, clipCount, takenIn, takenOff, heldAt, held, symbols, report, totals, count}
-use Rattle.scms.specs.Halves.{Vectors, BlockAnswer, checkNodes, variableNodes, clippedNodes, takenNodes, decodeTree, frameTree, decodeHalves, SameAnswer}
+use Rattle.scms.specs.Halves.{Vectors, BlockAnswer, checkNodes, variableNodes, clippedNodes, takenNodes, decodeTree, frameTree, decodeHalves, SameAnswer, decodeTreeBy}
 use Rattle.scms.specs.Totals.{Unclipped}
 use Rattle.scms.proofs.TreeDecoder.{decoded-from, word-transform}
 use Rattle.scms.proofs.Blocks.{block-fits}
@@ -100,7 +100,7 @@ module _ (code : Code) (mode : Mode) (frame : List ℕ) where
     block : (m d w o start : ℕ) → d + m ≡ n → o ≡ w * 2 ^ m → w < 2 ^ d → start ≡ d * (2 ^ n / 2) + o / 2 → (f : Vectors m) → f ≡ window [] m o (vs d)
         → window 0 m o r ≡ decodeTree m mode (coefsAt m start (2 ^ n / 2) cs) (window 0 m o map) f .symbols
         → BlockIs m d o (decodeTree m mode (coefsAt m start (2 ^ n / 2) cs) (window 0 m o map) f)
-    unfolding decodeTree coefsAt window clippedIn takenFrom sumTo
+    unfolding decodeTreeBy coefsAt window clippedIn takenFrom sumTo
     block zero d w o start e eo lw es f ef sr = record {
       held-is = ap (λ (x : ℕ). getD (vs x) o []) (let q : n ≡ d = omega arith in q) ∙ sym ef;
       count-is = refl;
@@ -116,10 +116,10 @@ module _ (code : Code) (mode : Mode) (frame : List ℕ) where
         let u = window 0 m o (layers n m cs r) in
         let ef₀ : f .0 ≡ window [] m o (vs d) = ap (λ (t : Vectors (suc m)). t .0) ef in
         let ef₁ : f .1 ≡ window [] m (o + 2 ^ m) (vs d) = ap (λ (t : Vectors (suc m)). t .1) ef in
-        let c = checkNodes m hs (f .0) (f .1) in
+        let c = checkNodes m (mode .candidates) hs (f .0) (f .1) in
         let a = decodeTree m mode (coefsAt m (start + stride) stride cs) (window 0 m o map) c in
         let sa : window 0 m o r ≡ a .symbols = ap (λ (t : Tree ℕ (suc m)). t .0) sr in
-        let ec : c ≡ window [] m o (vs (suc d)) = ap₂ (checkNodes m hs) ef₀ ef₁ ∙ sym (checks code mode frame r d m w o e o₁ start es fits) in
+        let ec : c ≡ window [] m o (vs (suc d)) = ap₂ (checkNodes m (mode .candidates) hs) ef₀ ef₁ ∙ sym (checks code mode frame r d m w o e o₁ start es fits) in
         let ha = block m (suc d) (w * 2) o (start + stride) (omega arith) (omega arith) (omega arith) (omega arith) c ec sa in
         let wa : a .word ≡ u
         = word-transform m mode (coefsAt m (start + stride) stride cs) (window 0 m o map) c ∙ ap (transformTree m (coefsAt m (start + stride) stride cs)) (sym sa)

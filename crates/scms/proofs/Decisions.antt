@@ -8,7 +8,7 @@ use native.Mathlib.Omega.{arith}
 use lib.ListN.{getD}
 use Rattle.vector.specs.Vector.{HasZero}
 use Rattle.polar_code.specs.Code.{Code, kindOf, Coefficients}
-use Rattle.scms.specs.Mode.{Mode}
+use Rattle.scms.specs.Mode.{Mode, TriesOne}
 use Rattle.scms.specs.Decoder.{heldAt, held, symbols}
 use Rattle.scms.specs.Totals.{EachZero}
 use Rattle.scms.specs.Claims.{Decided}
@@ -16,7 +16,7 @@ use Rattle.scms.proofs.DecisionLaws.{smallest-zero, smallest-first, dec
 use Rattle.scms.proofs.Bounds.{vector-zero}
 use Rattle.scms.proofs.AnswerLaws.{symbol-decided, held-final}
 
-module _ (code : Code) (mode : Mode) (frame : List ℕ) (g : Coefficients (code .coefs))
+module _ (code : Code) (mode : Mode) (frame : List ℕ) (one : TriesOne mode) (g : Coefficients (code .coefs))
     (z : EachZero (code .n) frame) where
   -- the number of layers
   abbrev n : ℕ
@@ -33,7 +33,7 @@ module _ (code : Code) (mode : Mode) (frame : List ℕ) (g : Coefficients (code 
   -- each held vector has a 0
   pub held-zero : (i : ℕ) → i < 2 ^ n → HasZero (held code mode frame i)
   unfolding heldAt
-  held-zero i l = subst HasZero (sym (held-final code mode frame i l)) (vector-zero code mode frame (symbols code mode frame) g z n (le-refl n) i l)
+  held-zero i l = subst HasZero (sym (held-final code mode frame i l)) (vector-zero code mode frame (symbols code mode frame) one g z n (le-refl n) i l)
 
   -- the decisions
   pub decided : (i : ℕ) → i < 2 ^ n → Decided code mode frame i

@@ -21,7 +21,7 @@ use Rattle.polar.proofs.Kernels.{phi-is}
 use Rattle.polar.proofs.Windows.{window, window-ext}
 use Rattle.polar.proofs.ByHalves.{block-halves}
 use Rattle.scms.specs.Mode.{Mode}
-use Rattle.scms.specs.Nodes.{checkNode, variableNode}
+use Rattle.scms.specs.Nodes.{checkNodeBy, variableNode}
 use Rattle.scms.specs.Decoder.{thetaSymbol, vectors, loweredAt, takenIn, takenOff, heldAt}
 use Rattle.scms.specs.Halves.{takenNodes}
 use Rattle.scms.specs.Claims.{Agree, OnlyEarlier}
@@ -90,7 +90,7 @@ module _ (code : Code) (mode : Mode) (frame s r : List ℕ) (ls : length s ≡ 2
     check-same : Same m o (suc d)
     check-same = ext-at m (window [] m o (vectors code mode frame s (suc d))) (window [] m o (vectors code mode frame r (suc d))) (λ p.
         check-of code mode frame s d m w o e eo fits p
-        ∙ ap₂ (λ (x y : Tree (List ℕ) m). checkNode (coefficient n (suc d) (w * 2 ^ m + number p) cs) (at x p) (at y p)) first-same second-same
+        ∙ ap₂ (λ (x y : Tree (List ℕ) m). checkNodeBy (mode .candidates) (coefficient n (suc d) (w * 2 ^ m + number p) cs) (at x p) (at y p)) first-same second-same
         ∙ sym (check-of code mode frame r d m w o e eo fits p))
 
     -- the second half

@@ -9,9 +9,9 @@ use Rattle.polar.specs.Tree.{Tree, map1, map2, treeSum, All, Place, here, first
 use Rattle.polar.specs.Halves.{Coefs, join, transformTree}
 use Rattle.polar.proofs.TreeLaws.{map1-at}
 use Rattle.polar.proofs.OneToOne.{Symbol, AllNonZero, transform-symbols, undo, undo-symbols, transform-undo}
-use Rattle.scms.specs.Mode.{Mode}
+use Rattle.scms.specs.Mode.{Mode, Full}
 use Rattle.scms.specs.Totals.{Least}
-use Rattle.scms.specs.Halves.{Vectors, checkNodes, variableNodes, clippedNodes, takenNodes, decodeTree}
+use Rattle.scms.specs.Halves.{Vectors, checkNodes, variableNodes, clippedNodes, takenNodes, decodeTree, decodeTreeBy}
 use Rattle.scms.proofs.TreeTotals.{llrAt, treeTotal, check-total-le, check-total-at, variable-total}
 use Rattle.scms.proofs.TreeDecoder.{decoded-symbols, word-transform}
 
@@ -25,20 +25,20 @@ Words m P u = All m Symbol u × P u
 
 -- one layer: m + 1 layers, of which the first joins two halves
 module _ (m : ℕ) (mode : Mode) (k : Coefs (suc m)) (f : Vectors (suc m)) (nz : AllNonZero (suc m) k) where
-  -- check nodes: the least over a free second half
-  pub least-check : (P : Tree ℕ m → Type 0) (t : ℕ) → Least (Words m P) (sentTotal m (k .1) (checkNodes m (k .0) (f .0) (f .1))) t
+  -- full check nodes: the least over a free second half
+  pub least-check : Full mode → (P : Tree ℕ m → Type 0) (t : ℕ) → Least (Words m P) (sentTotal m (k .1) (checkNodes m (mode .candidates) (k .0) (f .0) (f .1))) t
       → Least (Words (suc m) (λ u. P (u .0))) (sentTotal (suc m) k f) t
   unfolding transformTree join All treeTotal treeSum map2 AllNonZero
-  least-check P t l =
+  least-check full P t l =
       let a = transformTree m (k .1) (l .by) in
-      let p = check-total-at m (k .0) (f .0) (f .1) a (transform-symbols m (k .1) (l .by) (l .meets .0)) in
+      let p = check-total-at m (mode .candidates) (k .0) (f .0) (f .1) a full (transform-symbols m (k .1) (l .by) (l .meets .0)) in
       let q = transform-undo m (k .2) (p .0) (nz .2) (p .1) in
       record {
         by = (l .by, undo m (k .2) (p .0));
         meets = ((l .meets .0, undo-symbols m (k .2) (p .0) (p .1)), l .meets .1);
         gives = ap (λ (x : Tree ℕ m). treeTotal m (f .0) (map2 m _⊕_ a x) + treeTotal m (f .1) (map2 m _⊙_ (k .0) x)) q ∙ p .2 ∙ l .gives;
         bound = λ u h. le-trans (l .bound (u .0) (h .0 .0, h .1))
-            (check-total-le m (k .0) (f .0) (f .1) (transformTree m (k .1) (u .0)) (transformTree m (k .2) (u .1))
+            (check-total-le m (mode .candidates) (k .0) (f .0) (f .1) (transformTree m (k .1) (u .0)) (transformTree m (k .2) (u .1)) full
             (transform-symbols m (k .1) (u .0) (h .0 .0)) (transform-symbols m (k .2) (u .1) (h .0 .1)));
       }
 
@@ -73,22 +73,22 @@ BeginsAt s (first i) b u = BeginsAt (s .0) i b (u .0)
 BeginsAt s (second i) b u = (u .0 ≡ s .0) × BeginsAt (s .1) i b (u .1)
 
 -- the least total of what was decided before place i, followed by b
-pub exact : {m : ℕ} (i : Place m) (mode : Mode) (k : Coefs m) (map : Tree ℕ m) (f : Vectors m) → AllNonZero m k → decodeTree m mode k map f .count ≡ 0 → (b : ℕ) → b < 64
+pub exact : {m : ℕ} (i : Place m) (mode : Mode) (k : Coefs m) (map : Tree ℕ m) (f : Vectors m) → Full mode → AllNonZero m k → decodeTree m mode k map f .count ≡ 0 → (b : ℕ) → b < 64
     → Least (Words m (BeginsAt (decodeTree m mode k map f .symbols) i b)) (sentTotal m k f)
     (llrAt (at (decodeTree m mode k map f .held) i) b + at (decodeTree m mode k map f .taken) i)
-unfolding decodeTree transformTree at BeginsAt All treeTotal treeSum map2 AllNonZero
-exact here mode k map f nz e b lb = record {
+unfolding decodeTreeBy transformTree at BeginsAt All treeTotal treeSum map2 AllNonZero
+exact here mode k map f full nz e b lb = record {
   by = b;
   meets = (lb, refl);
   gives = sym (add-zero (llrAt f b));
   bound = λ u p. le-of-eq (add-zero (llrAt f b) ∙ ap (llrAt f) (sym (p .1)));
 }
-exact (first {m} i) mode k map f nz e b lb =
-    let a = decodeTree m mode (k .1) (map .0) (checkNodes m (k .0) (f .0) (f .1)) in
-    least-check m mode k f nz (BeginsAt (a .symbols) i b) (llrAt (at (a .held) i) b + at (a .taken) i)
-    (exact i mode (k .1) (map .0) (checkNodes m (k .0) (f .0) (f .1)) (nz .1) (omega arith) b lb)
-exact (second {m} i) mode k map f nz e b lb =
-    let c = checkNodes m (k .0) (f .0) (f .1) in
+exact (first {m} i) mode k map f full nz e b lb =
+    let a = decodeTree m mode (k .1) (map .0) (checkNodes m (mode .candidates) (k .0) (f .0) (f .1)) in
+    least-check m mode k f nz full (BeginsAt (a .symbols) i b) (llrAt (at (a .held) i) b + at (a .taken) i)
+    (exact i mode (k .1) (map .0) (checkNodes m (mode .candidates) (k .0) (f .0) (f .1)) full (nz .1) (omega arith) b lb)
+exact (second {m} i) mode k map f full nz e b lb =
+    let c = checkNodes m (mode .candidates) (k .0) (f .0) (f .1) in
     let a = decodeTree m mode (k .1) (map .0) c in
     let v = variableNodes m (mode .cap) (k .0) (f .0) (f .1) (a .word) in
     let d = decodeTree m mode (k .2) (map .1) v in
@@ -97,4 +97,4 @@ exact (second {m} i) mode k map f nz e b lb =
     = add-assoc (llrAt (at (d .held) i) b) (at (d .taken) i) t ∙ ap (λ (x : ℕ). llrAt (at (d .held) i) b + x) (sym (map1-at (λ x. x + t) i (d .taken))) in
     subst (Least (Words (suc m) (λ u. (u .0 ≡ a .symbols) × BeginsAt (d .symbols) i b (u .1))) (sentTotal (suc m) k f)) q
     (least-variable m mode k f nz (a .symbols) (a .word) (decoded-symbols m mode (k .1) (map .0) c) (word-transform m mode (k .1) (map .0) c) (omega arith)
-    (BeginsAt (d .symbols) i b) (llrAt (at (d .held) i) b + at (d .taken) i) (exact i mode (k .2) (map .1) v (nz .2) (omega arith) b lb))
+    (BeginsAt (d .symbols) i b) (llrAt (at (d .held) i) b + at (d .taken) i) (exact i mode (k .2) (map .1) v full (nz .2) (omega arith) b lb))

@@ -15,7 +15,7 @@ use Rattle.polar.specs.Tree.{Tree, leaves, treeOf, Place, at, number}
 use Rattle.polar.specs.Halves.{coefsAt}
 use Rattle.polar.proofs.TreeLaws.{place-of, length-leaves, treeOf-at, leaves-at, leaves-number}
 use Rattle.polar.proofs.OneToOne.{coefs-nonzero}
-use Rattle.scms.specs.Mode.{Mode}
+use Rattle.scms.specs.Mode.{Mode, Full}
 use Rattle.scms.specs.Decoder.{held, symbols, totals}
 use Rattle.scms.specs.Totals.{Least, Begins, LeastTotal, EachZero, Unclipped}
 use Rattle.scms.specs.Claims.{heldAndTotal, LeastTotals}
@@ -122,7 +122,7 @@ module _ (code : Code) (frame row : List ℕ) where
             le-trans (let m : number ≤ v b + number = omega arith in m) (least b (h .word .symbols (length row) short) .bound u (longer short u h));
       }
 
-module _ (code : Code) (mode : Mode) (frame : List ℕ) (g : Coefficients (code .coefs))
+module _ (code : Code) (mode : Mode) (frame : List ℕ) (full : Full mode) (g : Coefficients (code .coefs))
     (z : EachZero (code .n) frame) (un : Unclipped code mode frame) where
   -- the number of layers
   abbrev n : ℕ
@@ -156,13 +156,13 @@ module _ (code : Code) (mode : Mode) (frame : List ℕ) (g : Coefficients (code 
       subst (λ (x : List ℕ). LeastTotal code frame (take i x ++ (b ∷ [])) (both i b)) (same .same-symbols)
       (subst (LeastTotal code frame (take i (leaves n (A .symbols)) ++ (b ∷ []))) t
       (least-lists code frame (A .symbols) i b l (llrAt (at (A .held) p) b + at (A .taken) p)
-      (exact p mode (coefsAt n 0 (2 ^ n / 2) cs) (treeOf 0 n map) (frameTree n frame) (coefs-nonzero n 0 (2 ^ n / 2) cs g) (halves-unclipped code mode frame un) b lb)))
+      (exact p mode (coefsAt n 0 (2 ^ n / 2) cs) (treeOf 0 n map) (frameTree n frame) full (coefs-nonzero n 0 (2 ^ n / 2) cs g) (halves-unclipped code mode frame un) b lb)))
 
   -- each place: its row, its number in the totals and what is held for it
   pub least-totals : (i : ℕ) → i < 2 ^ n
       → LeastTotals code frame (take i (symbols code mode frame)) (getD (totals code mode frame) i 0) (held code mode frame i)
   least-totals i l =
-      let hz = held-zero code mode frame g z i l in
+      let hz = held-zero code mode frame (omega arith) g z i l in
       let row = take i (symbols code mode frame) in
       let long = symbols-word code mode frame .long in
       let short : length row < 2 ^ n = (let e = length-take-le i (symbols code mode frame) (omega arith) in omega arith) in

@@ -1,5 +1,6 @@
-pub mod NodeLaws
 pub mod DecisionLaws
+pub mod TriedLaws
+pub mod NodeLaws
 pub mod VectorLaws
 pub mod Bounds
 pub mod Blocks
@@ -12,6 +13,7 @@ pub mod TreeSums
 pub mod TreeDecoder
 pub mod BlockSums
 pub mod ByHalves
+pub mod FullNodes
 pub mod TreeTotals
 pub mod Exact
 pub mod TreeLists

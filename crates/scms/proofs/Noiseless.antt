@@ -10,8 +10,8 @@ use Rattle.polar_code.specs.Code.{Code, kindOf, Coefficients, IsWord}
 use Rattle.polar.specs.Transform.{theta, phi, coefficient, layer, layers, transform, KernelMade}
 use Rattle.polar.proofs.Kernels.{theta-lt, phi-lt}
 use Rattle.polar.proofs.LayerLaws.{layer-kernel, layers-word}
-use Rattle.scms.specs.Mode.{Mode}
-use Rattle.scms.specs.Nodes.{checkNode, variableNode}
+use Rattle.scms.specs.Mode.{Mode, TriesOne}
+use Rattle.scms.specs.Nodes.{checkNodeBy, variableNode}
 use Rattle.scms.specs.Decoder.{thetaSymbol, vectors, heldAt, symbols}
 use Rattle.scms.specs.Totals.{InCode}
 use Rattle.scms.specs.Claims.{Sent, Noiseless}
@@ -20,7 +20,7 @@ use Rattle.scms.proofs.DecisionLaws.{decision-only}
 use Rattle.scms.proofs.VectorLaws.{coefficient-nonzero, each-layer}
 use Rattle.scms.proofs.AnswerLaws.{answer-is}
 
-module _ (code : Code) (mode : Mode) (frame u : List ℕ) (hc : 1 ≤ mode .cap)
+module _ (code : Code) (mode : Mode) (frame u : List ℕ) (hc : 1 ≤ mode .cap) (one : TriesOne mode)
     (g : Coefficients (code .coefs)) (c : InCode code u) (sent : Sent (code .n) frame (transform (code .n) (code .coefs) u)) where
   -- the number of layers
   abbrev n : ℕ
@@ -75,7 +75,7 @@ module _ (code : Code) (mode : Mode) (frame u : List ℕ) (hc : 1 ≤ mode .cap)
 
     -- from the two vectors
     kernel-only : (v y : List ℕ) → OnlyZero v (getD (x d) (theta n (suc d) t) 0) → OnlyZero y (getD (x d) (phi n (suc d) t) 0)
-        → OnlyZero (checkNode h v y) p × OnlyZero (variableNode cap h p v y) r
+        → OnlyZero (checkNodeBy (mode .candidates) h v y) p × OnlyZero (variableNode cap h p v y) r
     kernel-only v y ov oy =
         let made = kernel-made d m e t lt in
         let nz = coefficient-nonzero n (suc d) t cs g in
@@ -84,7 +84,7 @@ module _ (code : Code) (mode : Mode) (frame u : List ℕ) (hc : 1 ≤ mode .cap)
         let lr = word .symbols (phi n (suc d) t) (phi-lt n d m e t lt) in
         let a = subst (OnlyZero v) (made .sum) ov in
         let b = subst (OnlyZero y) (made .product) oy in
-        (check-only h v y p r nz lp lr a b, variable-only h v y p r nz lp lr a b cap hc)
+        (check-only h v y p r nz lp lr a b (mode .candidates) one, variable-only h v y p r nz lp lr a b cap hc)
 
   -- each vector of layer d is 0 at the symbol of the word there, and nowhere else
   only-zero : (d : ℕ) → d ≤ n → (j : ℕ) → j < 2 ^ n → OnlyZero (getD (vectors code mode frame u d) j []) (getD (x d) j 0)
@@ -105,4 +105,4 @@ module _ (code : Code) (mode : Mode) (frame u : List ℕ) (hc : 1 ≤ mode .cap)
 
 -- without noise the decoder answers the word before the transform
 pub noiseless : (code : Code) (mode : Mode) (frame u : List ℕ) → Noiseless code mode frame u
-noiseless code mode frame u hc g c sent = decided-so code mode frame u hc g c sent
+noiseless code mode frame u hc one g c sent = decided-so code mode frame u hc one g c sent

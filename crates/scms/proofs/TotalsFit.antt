@@ -13,10 +13,10 @@ use Rattle.polar.specs.Halves.{Coefs, coefsAt}
 use Rattle.polar.proofs.Numbers.{two-pow}
 use Rattle.polar.proofs.TreeLaws.{number-lt, place-of, map1-at, all-by, leaves-number}
 use Rattle.polar.proofs.OneToOne.{Symbol, AllNonZero, coefs-nonzero}
-use Rattle.scms.specs.Mode.{Mode}
+use Rattle.scms.specs.Mode.{Mode, TriesOne}
 use Rattle.scms.specs.Totals.{EachZero, EachAtMost}
 use Rattle.scms.specs.Claims.{TotalsFit}
-use Rattle.scms.specs.Halves.{Vectors, checkNodes, variableNodes, takenNodes, decodeTree, frameTree, decodeHalves}
+use Rattle.scms.specs.Halves.{Vectors, checkNodes, variableNodes, takenNodes, decodeTree, frameTree, decodeHalves, checkNodesBy, decodeTreeBy}
 use Rattle.scms.proofs.NodeLaws.{check-zero, check-most, variable-zero, variable-most, rest-most, taken-most}
 use Rattle.scms.proofs.Bounds.{twice}
 use Rattle.scms.proofs.TreeDecoder.{decoded-word}
@@ -30,13 +30,14 @@ Bounded most v = HasZero v × AtMost most v
 -- ---- the nodes that join two halves
 
 -- check nodes raise nothing
-check-bounded : (m most : ℕ) (h : Tree ℕ m) (f g : Vectors m) → All m NonZero h → All m (Bounded most) f → All m (Bounded most) g
-    → All m (Bounded most) (checkNodes m h f g)
-unfolding checkNodes map3 All
-check-bounded zero most h f g nz bf bg = (check-zero h f g nz (bf .0) (bg .0), check-most most h f g nz (bf .1) (bg .0))
-check-bounded (suc m) most h f g nz bf bg = (
-  check-bounded m most (h .0) (f .0) (g .0) (nz .0) (bf .0) (bg .0),
-  check-bounded m most (h .1) (f .1) (g .1) (nz .1) (bf .1) (bg .1),
+check-bounded : (m most candidates : ℕ) (h : Tree ℕ m) (f g : Vectors m) → 1 ≤ candidates → All m NonZero h → All m (Bounded most) f → All m (Bounded most) g
+    → All m (Bounded most) (checkNodes m candidates h f g)
+unfolding checkNodesBy map3 All
+check-bounded zero most candidates h f g one nz bf bg =
+    (check-zero candidates h f g one nz (bf .0) (bg .0), check-most most candidates h f g one nz (bf .1) (bg .0))
+check-bounded (suc m) most candidates h f g one nz bf bg = (
+  check-bounded m most candidates (h .0) (f .0) (g .0) one (nz .0) (bf .0) (bg .0),
+  check-bounded m most candidates (h .1) (f .1) (g .1) one (nz .1) (bf .1) (bg .1),
 )
 
 -- variable nodes at most double
@@ -72,24 +73,24 @@ more-taken m most x t lt lx =
     omega arith
 
 -- at most m × most × 2^m
-pub block-fits : {m : ℕ} (p : Place m) (mode : Mode) (k : Coefs m) (map : Tree ℕ m) (f : Vectors m) (most : ℕ) → AllNonZero m k → All m (Bounded most) f
+pub block-fits : {m : ℕ} (p : Place m) (mode : Mode) (k : Coefs m) (map : Tree ℕ m) (f : Vectors m) (most : ℕ) → TriesOne mode → AllNonZero m k → All m (Bounded most) f
     → at (decodeTree m mode k map f .taken) p * 2 ≤ m * (most * 2 ^ m)
-unfolding decodeTree at AllNonZero All
-block-fits here mode k map f most nz bf = omega arith
-block-fits (first {m} p) mode k map f most nz bf =
-    let c = checkNodes m (k .0) (f .0) (f .1) in
+unfolding decodeTreeBy at AllNonZero All
+block-fits here mode k map f most one nz bf = omega arith
+block-fits (first {m} p) mode k map f most one nz bf =
+    let c = checkNodes m (mode .candidates) (k .0) (f .0) (f .1) in
     let x = at (decodeTree m mode (k .1) (map .0) c .taken) p in
-    let ih = block-fits p mode (k .1) (map .0) c most (nz .1) (check-bounded m most (k .0) (f .0) (f .1) (nz .0) (bf .0) (bf .1)) in
+    let ih = block-fits p mode (k .1) (map .0) c most one (nz .1) (check-bounded m most (mode .candidates) (k .0) (f .0) (f .1) one (nz .0) (bf .0) (bf .1)) in
     let e = more-taken m most x 0 (omega arith) (omega arith) in
     omega arith
-block-fits (second {m} p) mode k map f most nz bf =
-    let c = checkNodes m (k .0) (f .0) (f .1) in
+block-fits (second {m} p) mode k map f most one nz bf =
+    let c = checkNodes m (mode .candidates) (k .0) (f .0) (f .1) in
     let a = decodeTree m mode (k .1) (map .0) c in
     let w = decoded-word m mode (k .1) (map .0) c in
     let v = variableNodes m (mode .cap) (k .0) (f .0) (f .1) (a .word) in
     let b = decodeTree m mode (k .2) (map .1) v in
     let t = takenNodes m (k .0) (f .0) (f .1) (a .word) in
-    let ih = block-fits p mode (k .2) (map .1) v (most + most) (nz .2) (variable-bounded m most (mode .cap) (k .0) (f .0) (f .1) (a .word) w (bf .0) (bf .1)) in
+    let ih = block-fits p mode (k .2) (map .1) v (most + most) one (nz .2) (variable-bounded m most (mode .cap) (k .0) (f .0) (f .1) (a .word) w (bf .0) (bf .1)) in
     let e : m * ((most + most) * 2 ^ m) ≡ m * (most * 2 ^ m) + m * (most * 2 ^ m)
     = ap (λ (y : ℕ). m * y) (add-mul most most (2 ^ m)) ∙ mul-add m (most * 2 ^ m) (most * 2 ^ m) in
     let r = more-taken m most (at (b .taken) p) t (nodes-taken m most (k .0) (f .0) (f .1) (a .word) (nz .0) w (bf .0) (bf .1)) (omega arith) in
@@ -114,10 +115,10 @@ frame-bounded n most frame z mf = all-by (Bounded most) n (frameTree n frame) (�
 -- the totals
 pub totals-fit : (most : ℕ) (code : Code) (mode : Mode) (frame : List ℕ) → TotalsFit most code mode frame
 unfolding decodeHalves
-totals-fit most code mode frame g z mf i l =
+totals-fit most code mode frame one g z mf i l =
     let n = code .n in
     let p = place-of n i l .0 in
-    let fits = block-fits p mode (coefsAt n 0 (2 ^ n / 2) (code .coefs)) (treeOf 0 n (code .map)) (frameTree n frame) most
+    let fits = block-fits p mode (coefsAt n 0 (2 ^ n / 2) (code .coefs)) (treeOf 0 n (code .map)) (frameTree n frame) most one
     (coefs-nonzero n 0 (2 ^ n / 2) (code .coefs) g) (frame-bounded n most frame z mf) in
     let e = ap (λ (x : List ℕ). getD x i 0) (sym (same-answer code mode frame .same-totals)) ∙ leaves-number 0 n i l (decodeHalves code mode frame .taken) in
     half-most n most _ (subst (λ (y : ℕ). y * 2 ≤ n * (most * 2 ^ n)) (sym e) fits)

@@ -10,7 +10,7 @@ use lib.Pow.{pow-mono}
 use Rattle.vector.specs.Vector.{sumTo}
 use Rattle.vector.proofs.Laws.{sum-none, term-le}
 use Rattle.polar_code.specs.Code.{Code, Coefficients}
-use Rattle.scms.specs.Mode.{Mode, capOf, modeOf}
+use Rattle.scms.specs.Mode.{Mode, capOf, modeOf, TriesOne}
 use Rattle.scms.specs.Decoder.{loweredAt, clippedAt, clipCount, symbols, count}
 use Rattle.scms.specs.Totals.{EachZero, EachAtMost, Unclipped}
 use Rattle.scms.specs.Claims.{CountZero, NeverClipped}
@@ -64,11 +64,11 @@ module _ (code : Code) (mode : Mode) (frame : List ℕ) where
   count-zero = record { zero-unclipped = count-unclipped; unclipped-zero = unclipped-zero }
 
   -- where 2^n times the largest penalty of the frame is within the cap, nothing is clipped
-  pub unclipped-by : (most : ℕ) → Coefficients cs → EachZero n frame → EachAtMost n most frame → most * 2 ^ n ≤ cap → Unclipped code mode frame
-  unclipped-by most g z m hc = never-exceeds code mode frame s g z most (symbols-word code mode frame) m hc
+  pub unclipped-by : (most : ℕ) → TriesOne mode → Coefficients cs → EachZero n frame → EachAtMost n most frame → most * 2 ^ n ≤ cap → Unclipped code mode frame
+  unclipped-by most one g z m hc = never-exceeds code mode frame s one g z most (symbols-word code mode frame) m hc
 
 -- at Qm = 13 nothing is clipped
-pub never-clipped : (code : Code) (frame : List ℕ) → NeverClipped code frame
+pub never-clipped : (code : Code) (candidates : ℕ) (frame : List ℕ) → NeverClipped code candidates frame
 unfolding capOf
-never-clipped code frame hn g z m =
-    unclipped-by code (modeOf 13) frame 31 g z m (le-trans (mul-le-mul (le-refl 31) (pow-mono {i = code .n} {j = 8} hn)) (lit≤ tt))
+never-clipped code candidates frame one hn g z m =
+    unclipped-by code (modeOf 13 candidates) frame 31 one g z m (le-trans (mul-le-mul (le-refl 31) (pow-mono {i = code .n} {j = 8} hn)) (lit≤ tt))

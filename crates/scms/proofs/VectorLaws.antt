@@ -15,7 +15,7 @@ use Rattle.polar.proofs.Kernels.{theta-lt, phi-lt}
 use Rattle.polar.proofs.LayerLaws.{at-layer-long, layer-made, each-place, layers-word}
 use Rattle.polar.proofs.OneToOne.{coef-nonzero}
 use Rattle.scms.specs.Mode.{Mode}
-use Rattle.scms.specs.Nodes.{checkNode, clipped, lowered, variableNode}
+use Rattle.scms.specs.Nodes.{checkNodeBy, clipped, lowered, variableNode}
 use Rattle.scms.specs.Decoder.{nodes, thetaSymbol, vectors, thetaVector, phiVector, loweredAt}
 use Rattle.scms.specs.Claims.{UpdateRule}
 use Rattle.scms.proofs.NodeLaws.{check-long, variable-long}
@@ -43,7 +43,7 @@ module _ (code : Code) (mode : Mode) (frame s : List ℕ) where
   unfolding vectors nodes
   vectors-long zero = length-tabulate (2 ^ n) (vectorAt frame)
   vectors-long (suc d) =
-      at-layer-long [] n (suc d) (λ t v w. checkNode (coefficient n (suc d) t cs) v w)
+      at-layer-long [] n (suc d) (λ t v w. checkNodeBy (mode .candidates) (coefficient n (suc d) t cs) v w)
       (λ t v w. variableNode cap (coefficient n (suc d) t cs) (thetaSymbol n (suc d) t cs s) v w)
       (vectors code mode frame s d)
       ∙ vectors-long d
@@ -69,7 +69,7 @@ module _ (code : Code) (mode : Mode) (frame s : List ℕ) where
 
   -- the check node of kernel t of layer d + 1
   abbrev pub checkAt : (d t : ℕ) → List ℕ
-  checkAt d t = checkNode (coefficient n (suc d) t cs) (atPlace d (theta n (suc d) t)) (atPlace d (phi n (suc d) t))
+  checkAt d t = checkNodeBy (mode .candidates) (coefficient n (suc d) t cs) (atPlace d (theta n (suc d) t)) (atPlace d (phi n (suc d) t))
 
   -- and its variable node
   abbrev pub variableAt : (d t : ℕ) → List ℕ
@@ -82,7 +82,7 @@ module _ (code : Code) (mode : Mode) (frame s : List ℕ) where
       → (j : ℕ) → j < 2 ^ n → Q j (atPlace (suc d) j)
   unfolding vectors nodes
   each-vector d m e Q a b =
-      each-place [] n d m e (λ t x y. checkNode (coefficient n (suc d) t cs) x y)
+      each-place [] n d m e (λ t x y. checkNodeBy (mode .candidates) (coefficient n (suc d) t cs) x y)
       (λ t x y. variableNode cap (coefficient n (suc d) t cs) (thetaSymbol n (suc d) t cs s) x y) (vectors code mode frame s d) (vectors-long d) Q a b
 
   -- what holds of the frame's vectors, and of both nodes of a kernel where it holds of the two vectors that they are made from, holds of every
@@ -116,11 +116,11 @@ update-rule code mode frame s (suc d) t lw lt =
     let e : d + suc (code .n - suc d) ≡ code .n = (let a = lw .most in omega arith) in
     let h = coefficient n (suc d) t cs in
     let u = thetaSymbol n (suc d) t cs s in
-    let v = layer-made [] n d (n - suc d) e (λ i x y. checkNode (coefficient n (suc d) i cs) x y)
+    let v = layer-made [] n d (n - suc d) e (λ i x y. checkNodeBy (mode .candidates) (coefficient n (suc d) i cs) x y)
     (λ i x y. variableNode cap (coefficient n (suc d) i cs) (thetaSymbol n (suc d) i cs s) x y)
     (vectors code mode frame s d) (vectors-long code mode frame s d) t lt in
     record {
-      at-theta = v .at-theta ∙ ap₂ (checkNode h) (sym (theta-from code mode frame s d t)) (sym (phi-from code mode frame s d t));
+      at-theta = v .at-theta ∙ ap₂ (checkNodeBy (mode .candidates) h) (sym (theta-from code mode frame s d t)) (sym (phi-from code mode frame s d t));
       at-phi = v .at-phi ∙ ap₂ (λ (x y : List ℕ). clipped cap (lowered h u x y .rest)) (sym (theta-from code mode frame s d t)) (sym (phi-from code mode frame s d t));
     }
 
@@ -131,4 +131,4 @@ vector-long code mode frame s l j lj =
     let d = code .n - 1 in
     let e : suc d ≡ code .n = omega arith in
     subst (λ (x : ℕ). length (getD (vectors code mode frame s x) j []) ≡ 64) e
-    (each-vector code mode frame s d 0 (add-one d ∙ e) (λ j v. length v ≡ 64) (λ t lt. check-long _ _ _) (λ t lt. variable-long _ _ _ _ _) j lj)
+    (each-vector code mode frame s d 0 (add-one d ∙ e) (λ j v. length v ≡ 64) (λ t lt. check-long _ _ _ _) (λ t lt. variable-long _ _ _ _ _) j lj)

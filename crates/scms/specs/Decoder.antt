@@ -6,7 +6,7 @@ use Rattle.vector.specs.Vector.{tabulate, vectorAt, joined, sumTo}
 use Rattle.polar_code.specs.Code.{Code, kindOf}
 use Rattle.polar.specs.Transform.{theta, phi, coefficient, atLayer, layers}
 use Rattle.scms.specs.Mode.{Mode}
-use Rattle.scms.specs.Nodes.{Lowered, checkNode, variableNode, lowered, exceeding}
+use Rattle.scms.specs.Nodes.{Lowered, checkNodeBy, variableNode, lowered, exceeding}
 use Rattle.scms.specs.Decision.{decision}
 
 -- u, θ's symbol at kernel t of layer l: what the kernels of the later layers, n down to l + 1, make of the symbols
@@ -15,11 +15,11 @@ unfoldable pub thetaSymbol : (n l t : ℕ) (cs s : List ℕ) → ℕ
 thetaSymbol n l t cs s = getD (layers n (n - l) cs s) (theta n l t) 0
 
 -- the nodes of layer l on the vectors of all places: each kernel's check node at θ, and its variable node at φ
-unfoldable pub nodes : (n l cap : ℕ) (cs s : List ℕ) → List (List ℕ) → List (List ℕ)
-nodes n l cap cs s vs =
+unfoldable pub nodes : (n l : ℕ) → Mode → (cs s : List ℕ) → List (List ℕ) → List (List ℕ)
+nodes n l mode cs s vs =
     atLayer [] n l
-    (λ t v w. checkNode (coefficient n l t cs) v w)
-    (λ t v w. variableNode cap (coefficient n l t cs) (thetaSymbol n l t cs s) v w) vs
+    (λ t v w. checkNodeBy (mode .candidates) (coefficient n l t cs) v w)
+    (λ t v w. variableNode (mode .cap) (coefficient n l t cs) (thetaSymbol n l t cs s) v w) vs
 
 -- A code, a mode, a frame, and a word s with the symbols decided so far. What s holds at a place not yet decided
 -- reaches only vectors of later places (specs/Claims, OnlyEarlier), so it does not matter.
@@ -35,7 +35,7 @@ module _ (code : Code) (mode : Mode) (frame s : List ℕ) where
   -- the vectors of layer l, one for each place; those of layer 0 are the frame's
   unfoldable pub vectors : ℕ → List (List ℕ)
   vectors zero = tabulate (2 ^ n) (vectorAt frame)
-  vectors (suc d) = nodes n (suc d) (mode .cap) cs s (vectors d)
+  vectors (suc d) = nodes n (suc d) mode cs s (vectors d)
 
   -- θ's vector that the nodes of kernel t of layer l are given: of layer l − 1
   unfoldable pub thetaVector : (l t : ℕ) → List ℕ

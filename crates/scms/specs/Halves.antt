@@ -11,7 +11,7 @@ use Rattle.polar.specs.Tree.{Tree, map1, map3, map4, treeSum, treeOf, leaves}
 use Rattle.polar.specs.Transform.{transform}
 use Rattle.polar.specs.Halves.{Coefs, join, coefsAt}
 use Rattle.scms.specs.Mode.{Mode}
-use Rattle.scms.specs.Nodes.{checkNode, variableNode, lowered, clippedEntries}
+use Rattle.scms.specs.Nodes.{checkNodeBy, variableNode, lowered, clippedEntries}
 use Rattle.scms.specs.Decision.{decision}
 use Rattle.scms.specs.Decoder.{held, symbols, report, totals, count}
 
@@ -28,9 +28,17 @@ pub record BlockAnswer (m : ℕ) : Type 0 where
   pub taken : Tree ℕ m
   pub count : ℕ
 
+-- the check node of a kernel, by whatever rule: from its coefficient, θ's vector and φ's
+abbrev pub CheckNode : Type 0
+CheckNode = (h : ℕ) (theta phi : List ℕ) → List ℕ
+
 -- the check nodes that join two halves
-unfoldable pub checkNodes : (m : ℕ) → Tree ℕ m → Vectors m → Vectors m → Vectors m
-checkNodes m h f g = map3 m checkNode h f g
+unfoldable pub checkNodesBy : CheckNode → (m : ℕ) → Tree ℕ m → Vectors m → Vectors m → Vectors m
+checkNodesBy check m h f g = map3 m check h f g
+
+-- those that try m values
+abbrev pub checkNodes : (m candidates : ℕ) → Tree ℕ m → Vectors m → Vectors m → Vectors m
+checkNodes m candidates h f g = checkNodesBy (checkNodeBy candidates) m h f g
 
 -- the variable nodes, with the first half's word u decided
 unfoldable pub variableNodes : (m cap : ℕ) → Tree ℕ m → Vectors m → Vectors m → Tree ℕ m → Vectors m
@@ -44,21 +52,25 @@ clippedNodes m cap h f g u = treeSum m (map4 m (λ k v w s. clippedEntries cap k
 unfoldable pub takenNodes : (m : ℕ) → Tree ℕ m → Vectors m → Vectors m → Tree ℕ m → ℕ
 takenNodes m h f g u = treeSum m (map4 m (λ k v w s. lowered k s v w .taken) h f g u)
 
--- the decoder of a block: its coefficients, its map bytes and its vectors
-unfoldable pub decodeTree : (m : ℕ) → Mode → Coefs m → Tree ℕ m → Vectors m → BlockAnswer m
-decodeTree zero mode k map f =
+-- the decoder of a block, by a rule for its check nodes: the cap, its coefficients, its map bytes and its vectors
+unfoldable pub decodeTreeBy : CheckNode → (m cap : ℕ) → Coefs m → Tree ℕ m → Vectors m → BlockAnswer m
+decodeTreeBy check zero cap k map f =
     let s = decision (kindOf map) f in
     record { symbols = s; word = s; held = f; taken = 0; count = 0 }
-decodeTree (suc m) mode k map f =
-    let a = decodeTree m mode (k .1) (map .0) (checkNodes m (k .0) (f .0) (f .1)) in
-    let b = decodeTree m mode (k .2) (map .1) (variableNodes m (mode .cap) (k .0) (f .0) (f .1) (a .word)) in
+decodeTreeBy check (suc m) cap k map f =
+    let a = decodeTreeBy check m cap (k .1) (map .0) (checkNodesBy check m (k .0) (f .0) (f .1)) in
+    let b = decodeTreeBy check m cap (k .2) (map .1) (variableNodes m cap (k .0) (f .0) (f .1) (a .word)) in
     record {
       symbols = (a .symbols, b .symbols);
       word = join m (k .0) (a .word) (b .word);
       held = (a .held, b .held);
       taken = (a .taken, map1 m (λ x. x + takenNodes m (k .0) (f .0) (f .1) (a .word)) (b .taken));
-      count = a .count + clippedNodes m (mode .cap) (k .0) (f .0) (f .1) (a .word) + b .count;
+      count = a .count + clippedNodes m cap (k .0) (f .0) (f .1) (a .word) + b .count;
     }
+
+-- the decoder of a block by a mode
+abbrev pub decodeTree : (m : ℕ) → Mode → Coefs m → Tree ℕ m → Vectors m → BlockAnswer m
+decodeTree m mode k map f = decodeTreeBy (checkNodeBy (mode .candidates)) m (mode .cap) k map f
 
 -- the vectors of a frame
 unfoldable pub frameTree : (m : ℕ) → List ℕ → Vectors m

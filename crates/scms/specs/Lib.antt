@@ -1,3 +1,4 @@
+pub mod Tried
 pub mod Nodes
 pub mod Decision
 pub mod Mode

@@ -7,6 +7,7 @@ use lib.Dec.{ltb}
 use lib.ListN.{getD}
 use Rattle.vector.specs.Vector.{tabulate, sumTo, leastTo, least, lessLeast}
 use Rattle.gf64.specs.Field.{_⊕_, _⊙_}
+use Rattle.scms.specs.Tried.{tried, leastOver}
 
 -- φ's vector in the order of c: φ's penalty at h ⊙ c, for each c
 unfoldable pub ordered : (h : ℕ) → List ℕ → List ℕ
@@ -23,6 +24,16 @@ checkFrom theta ordered = tabulate 64 (λ b. leastTo 63 (sumAt theta ordered b))
 -- a check node: value b gets the least, over all c, of θ's penalty at b ⊕ c plus φ's at h ⊙ c
 unfoldable pub checkNode : (h : ℕ) (theta phi : List ℕ) → List ℕ
 checkNode h theta phi = checkFrom theta (ordered h phi)
+
+-- a shorter check node from the same: value b gets the least of its sums at the values that are tried
+unfoldable pub checkTried : (m : ℕ) (theta ordered : List ℕ) → List ℕ
+checkTried m theta ordered =
+    let cs = tried m ordered in tabulate 64 (λ b. leastOver cs (sumAt theta ordered b))
+
+-- a check node that tries m values: value b gets the least, over the m values c whose φ penalty, counted at h ⊙ c, is
+-- smallest, ties to the smaller c, of θ's penalty at b ⊕ c plus φ's at h ⊙ c. With m = 64 it is `checkNode`
+unfoldable pub checkNodeBy : (m h : ℕ) (theta phi : List ℕ) → List ℕ
+checkNodeBy m h theta phi = checkTried m theta (ordered h phi)
 
 -- the sums of a variable node from θ's vector and φ's in the order of c, θ's symbol being u
 unfoldable pub sumsFrom : (u : ℕ) (theta ordered : List ℕ) → List ℕ

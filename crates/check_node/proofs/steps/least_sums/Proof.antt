@@ -44,7 +44,7 @@ loop-again c =
       m .long,
       λ b s.
           subst (Holds (start .args .theta) (start .args .ordered .now) b (8 * (column + 1))) (sym (m .done b (omega arith) s))
-          (at-step n (column-holds (start .args .theta) b (head .before .before .copies .ensures) (head .before .wide-differences .ensures) (start .pre .0) (start .pre .1) s column _ l (head .loop .inv .2 b s) 2 (omega arith))),
+          (at-step n (column-holds (start .args .theta) b (head .before .before .copies .ensures (start .pre .0 .long)) (head .before .wide-differences .ensures) (start .pre .0) (start .pre .1) s column _ l (head .loop .inv .2 b s) 2 (omega arith))),
     )
 
 returns : tie.Need-returns Inv-loop μ-loop

@@ -40,7 +40,7 @@ abbrev code : tie.Start → Code
 code s = codeOf (s .args .n) (s .args .map .now) (s .args .coefs .now)
 
 abbrev settings : tie.Start → Settings
-settings s = settingsOf (s .args .qc) (s .args .qm)
+settings s = settingsOf (s .args .qc) (s .args .qm) (s .args .candidates)
 
 abbrev lent : tie.Start → Lent
 lent s = lentOf (s .args .work .now) (s .args .symbols .now) (s .args .report .now) (s .args .totals .now)

@@ -1,6 +1,6 @@
 -- `check_nodes` meets its contract: the check nodes of the kernels before t are stored, and phi's vectors of these in the
 -- order of c.
-use mathlib.Core.Path.{_≡_, refl, ap, ap₂, _∙_}
+use mathlib.Core.Path.{_≡_, refl, sym, ap, ap₂, _∙_}
 use mathlib.Core.List.{_++_}
 use Prim.Native.Nat.{ℕ, _+_, _-_}
 use native.Mathlib.Omega.{arith}
@@ -8,21 +8,23 @@ use borrow.Author.Needs.{needs}
 use lib.ListN.{getD}
 use Rattle.vector.specs.Vector.{vectorAt}
 use Rattle.vector.proofs.Entries.{getD-any}
-use Rattle.scms.specs.Nodes.{ordered, checkFrom}
+use Rattle.scms.specs.Nodes.{ordered, checkTried}
 use Rattle.scms.proofs.NodeLaws.{check-long, check-from}
 use Rattle.phi_order.proofs.OrderLaws.{ordered-small, ordered-low, low-ordered}
+use Rattle.reorder.specs.Order.{lowBits}
+use Rattle.short_check_node.proofs.SetLaws.{asked-some}
 use Rattle.decoder.specs.Parts.{checkAt, orderedAt}
 use Rattle.decoder.proofs.LayerLaws.{blockFrom, StoredNodes, layer-none, layer-more, source-small, loaded-is, low-is, StoredFirst, first-none, first-more}
 use Rattle.decoder.proofs.layers.check_nodes.Statement.{statement}
 use Rattle.decoder.proofs.layers.check_nodes.Tie as tie
 
 abbrev Inv-loop : tie.InvT-loop
-Inv-loop half coefs table frame work₀ room₀ places at start to t₀ work room t =
-    StoredNodes at half frame work₀ (checkAt (blockFrom start at) half coefs (frame ++ work₀)) work t
-    × StoredFirst half room₀ (orderedAt (blockFrom start at) half coefs (frame ++ work₀)) room t
+Inv-loop half coefs table frame work₀ room₀ places at start candidates to t₀ work room t =
+    StoredNodes at half frame work₀ (checkAt (blockFrom start at candidates) half coefs (frame ++ work₀)) work t
+    × StoredFirst half room₀ (orderedAt (blockFrom start at candidates) half coefs (frame ++ work₀)) room t
 
 abbrev μ-loop : tie.MeasureT-loop
-μ-loop half coefs table frame work₀ room₀ places at start to t₀ work room t = half - t
+μ-loop half coefs table frame work₀ room₀ places at start candidates to t₀ work room t = half - t
 
 -- the entry, from the loop's head
 abbrev entry : tie.At-loop Inv-loop μ-loop → tie.Start Inv-loop μ-loop
@@ -30,7 +32,7 @@ entry c = c .before .before .before .before .before
 
 -- from the places where the results of the calls are known to the ones before them: the check node, phi's vector stored,
 -- phi's vector in the order of c, phi's vector, theta's vector, and the turn's start
-abbrev to-stored : tie.After-check-node Inv-loop μ-loop → tie.After-store Inv-loop μ-loop
+abbrev to-stored : tie.After-short-check-node Inv-loop μ-loop → tie.After-store Inv-loop μ-loop
 to-stored c = c .before .before .before .before .before
 
 abbrev to-ordered : tie.After-store Inv-loop μ-loop → tie.After-ordered Inv-loop μ-loop
@@ -46,7 +48,7 @@ abbrev to-turn : tie.After-load-vector Inv-loop μ-loop → tie.In-loop Inv-loop
 to-turn c = c .before .before
 
 -- the turn, from the check node
-abbrev turn-of : tie.After-check-node Inv-loop μ-loop → tie.In-loop Inv-loop μ-loop
+abbrev turn-of : tie.After-short-check-node Inv-loop μ-loop → tie.In-loop Inv-loop μ-loop
 turn-of c = to-turn (to-theta (to-phi (to-ordered (to-stored c))))
 
 loop-holds : tie.Need-loop-holds Inv-loop μ-loop
@@ -60,7 +62,7 @@ add-store c =
     omega arith
 
 -- the place after a node was stored, from the end of the turn
-abbrev to-node : tie.After-store2 Inv-loop μ-loop → tie.After-check-node Inv-loop μ-loop
+abbrev to-node : tie.After-store2 Inv-loop μ-loop → tie.After-short-check-node Inv-loop μ-loop
 to-node c = c .before .before .before
 
 add-t : tie.Need-add-t Inv-loop μ-loop
@@ -93,10 +95,11 @@ loop-again c =
     ordered-low (getD (a .coefs .now) (start + h .t) 0) phi (s .pre .2) (loaded-is layer (h .inv .0) (a .half + h .t) (omega arith) _ (second .load-vector2 .ensures)) (order .ordered .ensures) small
     ∙ ap (λ (j : ℕ). ordered j phi) coef in
     let node =
-    made .check-node .ensures
-    ∙ ap₂ checkFrom (low-is layer (h .inv .0) (h .t) (omega arith) _ (first .load-vector .ensures)) (low-ordered k phi x small)
-    ∙ check-from k (vectorAt (a .frame .now ++ a .work .now) (at + h .t)) phi in (
-      layer-more layer (h .inv .0) l (made .check-node .result) node (check-long _ _ _) _ (c .before .before .store2 .ensures),
+    made .short-check-node .ensures
+    ∙ ap (λ (m : ℕ). checkTried m (lowBits (first .load-vector .result)) (lowBits (order .ordered .result))) (sym (asked-some (a .block .candidates) (s .pre .0 .tries)))
+    ∙ ap₂ (checkTried (a .block .candidates)) (low-is layer (h .inv .0) (h .t) (omega arith) _ (first .load-vector .ensures)) (low-ordered k phi x small)
+    ∙ check-from (a .block .candidates) k (vectorAt (a .frame .now ++ a .work .now) (at + h .t)) phi in (
+      layer-more layer (h .inv .0) l (made .short-check-node .result) node (check-long _ _ _ _) _ (c .before .before .store2 .ensures),
       first-more (h .inv .1) l x (ordered-small k phi (ordered k phi) refl small .long) (put .store .ensures),
     )
 

@@ -29,7 +29,7 @@ abbrev sent : tie.Start → Transmission
 sent s = transmissionOf (s .args .n) (s .args .map .now) (s .args .coefs .now) (s .args .message .now) (s .args .base) (s .args .amplitude)
 
 abbrev received : tie.Start → Reception
-received s = receptionOf (s .args .top) (s .args .bottom) (s .args .qc) (s .args .qm)
+received s = receptionOf (s .args .top) (s .args .bottom) (s .args .qc) (s .args .qm) (s .args .candidates)
 
 abbrev lent : tie.Start → TripLent
 lent s = tripLentOf (s .args .samples .now) (s .args .frame .now) (s .args .work .now) (s .args .symbols .now) (s .args .report .now) (s .args .totals .now) (s .args .decoded .now)
@@ -68,7 +68,7 @@ round-trip-spec =
     (λ c κs.
     let decoded = to-decode c in
     let e = to-fork (to-send (to-demap decoded)) in
-    reading (sent (entry e)) (received (entry e)) (lent (entry e)) (input e) (decoded .decode .kept .1 .1 .1 .1 .1 .1 .1 .0))
+    reading (sent (entry e)) (received (entry e)) (lent (entry e)) (input e) (decoded .decode .kept .1 .1 .1 .1 .1 .1 .1 .1 .0))
     (λ c. search needs)
     (λ c. search needs)
     (λ c. search needs)

@@ -28,8 +28,8 @@ abbrev lent : tie.Start → Lent
 lent s = lentOf (s .args .work .now) (s .args .symbols .now) (s .args .report .now) (s .args .totals .now)
 
 -- the symbols that the decoder leaves are N
-symbols-kept : (c : tie.After-decode) → length (c .decode .last .1 .1 .1 .1 .1 .1 .1 .0) ≡ length (entry c .args .symbols .now)
-symbols-kept c = c .decode .kept .1 .1 .1 .1 .1 .1 .1 .0
+symbols-kept : (c : tie.After-decode) → length (c .decode .last .1 .1 .1 .1 .1 .1 .1 .1 .0) ≡ length (entry c .args .symbols .now)
+symbols-kept c = c .decode .kept .1 .1 .1 .1 .1 .1 .1 .1 .0
 
 write-listing-requires : tie.Need-write-listing-requires
 write-listing-requires c κs =
@@ -39,7 +39,7 @@ write-listing-requires c κs =
     let few = pow-mono {i = entry done .args .n} {j = 8} (given .listable .is-code .layers .most) in
     record {
       few = omega arith;
-      report-long = done .decode .kept .1 .1 .1 .1 .1 .1 .1 .1 .0 ∙ given .buffers .report-long ∙ ap (λ (k : ℕ). 64 * k) (sym symbols-long);
+      report-long = done .decode .kept .1 .1 .1 .1 .1 .1 .1 .1 .1 .0 ∙ given .buffers .report-long ∙ ap (λ (k : ℕ). 64 * k) (sym symbols-long);
       output-long = given .listable .output-long ∙ ap listingLength (sym symbols-long);
     }
 

@@ -5,9 +5,8 @@ ghost use lib.ListN.{length};
 ghost use Rattle.check_node.specs.Steps.{AreCopies};
 
 // Eight copies of a vector, one after the other: copy k has the entries i and i + k (the field's sum) exchanged.
-pub(crate) fn copies(v: [u16; 64]) -> [u16; 512]
-    requires { ⌜ length v ≡ 64 ⌝ }
-    ensures { λ r. ⌜ AreCopies 8 v r ⌝ }
+pub fn copies(v: [u16; 64]) -> [u16; 512]
+    ensures { λ r. ⌜ (length v ≡ 64 → AreCopies 8 v r) ⌝ }
 {
     let v1 = swapped(&v, 1);
     let v2 = swapped(&v, 2);

@@ -6,8 +6,8 @@ use mathlib.Core.Path.{refl}
 use Rattle.gf64.specs.Field.{_⊕_}
 use Rattle.reorder.proofs.SwapLaws.{swapped-none, swapped-again}
 use Rattle.check_node.proofs.CopyLaws.{copies-none, copies-more}
-use Rattle.check_node.proofs.copies.copies.Statement.{statement}
-use Rattle.check_node.proofs.copies.copies.Tie as tie
+use Rattle.check_node.proofs.copying.copies.Statement.{statement}
+use Rattle.check_node.proofs.copying.copies.Tie as tie
 
 -- the places before, one store earlier each
 abbrev back8 : tie.After-w16 → tie.After-w14
@@ -58,7 +58,7 @@ entry c = earlier1 c .before .before
 
 returns : tie.Need-returns
 unfolding _⊕_
-returns c =
+returns c = λ long.
     let a1 = back2 (back3 (back4 (back5 (back6 (back7 (back8 c)))))) in
     let m = first a1 in
     let e1 = earlier1 m .swapped .ensures in
@@ -75,7 +75,7 @@ returns c =
     (copies-more 3
     (copies-more 2
     (copies-more 1
-    (copies-more 0 (copies-none refl) (omega arith) (a1 .before .store .ensures) (swapped-none _ (entry m .pre)))
+    (copies-more 0 (copies-none refl) (omega arith) (a1 .before .store .ensures) (swapped-none _ long))
     (omega arith) (back3 (back4 (back5 (back6 (back7 (back8 c))))) .before .store2 .ensures) e1)
     (omega arith) (back4 (back5 (back6 (back7 (back8 c)))) .before .store3 .ensures) e2)
     (omega arith) (back5 (back6 (back7 (back8 c))) .before .store4 .ensures) e3)

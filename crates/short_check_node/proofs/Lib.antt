@@ -1,0 +1,4 @@
+pub mod MaskLaws
+pub mod CutLaws
+pub mod SetLaws
+pub mod SumLaws
