@@ -2,3 +2,4 @@ pub mod MaskLaws
 pub mod CutLaws
 pub mod SetLaws
 pub mod SumLaws
+pub mod FullLaws

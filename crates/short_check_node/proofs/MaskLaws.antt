@@ -5,7 +5,7 @@ use native.Mathlib.Nat.{pow-suc, not-suc-le-zero, le-of-suc-le-suc, zero-lt-suc,
 use native.Mathlib.Decide.{decLt}
 use native.Mathlib.Omega.{arith}
 use lib.Pow.{pow-mono}
-use lib.Bits.{bitAnd, and-step, and-self}
+use lib.Bits.{bitAnd, bitXor, differ, xor-step, xor-zero-l, and-step, and-self}
 use lib.Count.{under, trailingZeros}
 use Rattle.short_check_node.specs.Masks.{Flags, maskOf}
 
@@ -25,6 +25,33 @@ mask-parts zero f g h = refl
 mask-parts (suc n) f g h =
     let e = mask-parts n (λ i. f (suc i)) (λ i. g (suc i)) (λ i l. h (suc i) (omega arith)) in
     let l = h 0 (omega arith) in
+    omega arith
+
+-- one bit of two numbers that differ, where the second is no larger
+differ-part : (a b : ℕ) → a ≤ 1 → b ≤ a → differ a b ≡ a - b
+differ-part zero zero la lb = refl
+differ-part zero (suc b) la lb = absurd (not-suc-le-zero lb)
+differ-part (suc zero) zero la lb = refl
+differ-part (suc zero) (suc zero) la lb = refl
+differ-part (suc zero) (suc (suc b)) la lb = absurd (omega arith)
+differ-part (suc (suc a)) b la lb = absurd (omega arith)
+
+-- a set without a part of it, by the bits that differ
+pub mask-without : (n : ℕ) (f g : ℕ → ℕ) → Flags f → ((i : ℕ) → g i ≤ f i) → bitXor (maskOf n f) (maskOf n g) ≡ maskOf n (λ i. f i - g i)
+unfolding maskOf
+mask-without zero f g h p = xor-zero-l 0
+mask-without (suc n) f g h p =
+    let a = maskOf n (λ i. f (suc i)) in
+    let b = maskOf n (λ i. g (suc i)) in
+    let l = h 0 in
+    let m = p 0 in
+    let fh : (f 0 + 2 * a) / 2 ≡ a = omega arith in
+    let gh : (g 0 + 2 * b) / 2 ≡ b = omega arith in
+    let fl : (f 0 + 2 * a) % 2 ≡ f 0 = omega arith in
+    let gl : (g 0 + 2 * b) % 2 ≡ g 0 = omega arith in
+    let e = xor-step (f 0 + 2 * a) (g 0 + 2 * b) in
+    let high = ap₂ bitXor fh gh ∙ mask-without n (λ i. f (suc i)) (λ i. g (suc i)) (λ i. h (suc i)) (λ i. p (suc i)) in
+    let low = ap₂ differ fl gl ∙ differ-part (f 0) (g 0) l m in
     omega arith
 
 -- it has n bits
@@ -110,24 +137,25 @@ without-other zero f (suc i) h = refl
 without-other (suc c) f zero h = refl
 without-other (suc c) f (suc i) h = without-other c (λ j. f (suc j)) i (λ e. h (ap suc e))
 
+-- it is a set too
+pub without-flags : (c : ℕ) (f : ℕ → ℕ) → Flags f → Flags (without c f)
+unfolding without
+without-flags zero f h zero = omega arith
+without-flags zero f h (suc i) = h (suc i)
+without-flags (suc c) f h zero = h 0
+without-flags (suc c) f h (suc i) = without-flags c (λ j. f (suc j)) (λ j. h (suc j)) i
+
 -- ---- the smallest value of a set, and the set without it
 
--- the number of zeros below the lowest bit that is 1 is the smallest value
-pub record Lowest (n : ℕ) (f : ℕ → ℕ) (mask : ℕ) : Type 0 where
-  pub within : trailingZeros n mask < n
-  pub is-set : f (trailingZeros n mask) ≡ 1
-  pub none : (d : ℕ) → d < trailingZeros n mask → f d ≡ 0
-  pub cleared : bitAnd mask (mask - 1) ≡ maskOf n (without (trailingZeros n mask) f)
-
--- the same from the number of zeros
-record LowestAt (n : ℕ) (f : ℕ → ℕ) (mask c : ℕ) : Type 0 where
-  within : c < n
-  is-set : f c ≡ 1
-  none : (d : ℕ) → d < c → f d ≡ 0
-  cleared : bitAnd mask (mask - 1) ≡ maskOf n (without c f)
+-- c is the smallest value of the set f, and this is the number of the set without it
+pub record Lowest (n : ℕ) (f : ℕ → ℕ) (mask c : ℕ) : Type 0 where
+  pub within : c < n
+  pub is-set : f c ≡ 1
+  pub none : (d : ℕ) → d < c → f d ≡ 0
+  pub cleared : bitAnd mask (mask - 1) ≡ maskOf n (without c f)
 
 -- one bit more, which is 1: it is the lowest
-lowest-one : (n : ℕ) (f : ℕ → ℕ) (mask : ℕ) → f 0 ≡ 1 → mask ≡ 1 + 2 * maskOf n (λ i. f (suc i)) → LowestAt (suc n) f mask 0
+lowest-one : (n : ℕ) (f : ℕ → ℕ) (mask : ℕ) → f 0 ≡ 1 → mask ≡ 1 + 2 * maskOf n (λ i. f (suc i)) → Lowest (suc n) f mask 0
 unfolding maskOf without
 lowest-one n f mask one e =
     let k = maskOf n (λ i. f (suc i)) in
@@ -142,7 +170,7 @@ lowest-one n f mask one e =
 
 -- one bit more, which is 0: the lowest is one further
 lowest-zero : (n : ℕ) (f : ℕ → ℕ) (mask c : ℕ) → f 0 ≡ 0 → mask ≡ 2 * maskOf n (λ i. f (suc i)) → 0 < mask
-    → LowestAt n (λ i. f (suc i)) (maskOf n (λ i. f (suc i))) c → LowestAt (suc n) f mask (suc c)
+    → Lowest n (λ i. f (suc i)) (maskOf n (λ i. f (suc i))) c → Lowest (suc n) f mask (suc c)
 unfolding maskOf without
 lowest-zero n f mask c z e l h =
     let k = maskOf n (λ i. f (suc i)) in
@@ -160,29 +188,24 @@ lowest-zero n f mask c z e l h =
     go zero m = z
     go (suc d) m = h .none d (le-of-suc-le-suc m)
 
--- the smallest value of a set that is not empty
-lowest-at : (n : ℕ) (f : ℕ → ℕ) (mask : ℕ) → Flags f → mask ≡ maskOf n f → 0 < mask → LowestAt n f mask (trailingZeros n mask)
+-- the smallest value of a set that is not empty is the number of zeros below the lowest bit that is 1
+pub lowest : (n : ℕ) (f : ℕ → ℕ) (mask : ℕ) → Flags f → mask ≡ maskOf n f → 0 < mask → Lowest n f mask (trailingZeros n mask)
 unfolding maskOf trailingZeros
-lowest-at zero f mask h e l = absurd (omega arith)
-lowest-at (suc n) f mask h e l =
-    go (λ p. lowest-at n (λ i. f (suc i)) (maskOf n (λ i. f (suc i))) (λ i. h (suc i)) refl p) (decLt (f 0) 1)
+lowest zero f mask h e l = absurd (omega arith)
+lowest (suc n) f mask h e l =
+    go (λ p. lowest n (λ i. f (suc i)) (maskOf n (λ i. f (suc i))) (λ i. h (suc i)) refl p) (decLt (f 0) 1)
   where
     k : ℕ
     k = maskOf n (λ i. f (suc i))
 
-    go : (0 < k → LowestAt n (λ i. f (suc i)) k (trailingZeros n k)) → Dec (f 0 < 1)
-        → LowestAt (suc n) f mask (under (mask % 2) (trailingZeros n (mask / 2)))
+    go : (0 < k → Lowest n (λ i. f (suc i)) k (trailingZeros n k)) → Dec (f 0 < 1)
+        → Lowest (suc n) f mask (under (mask % 2) (trailingZeros n (mask / 2)))
     go ih (yes s) =
         let even : mask % 2 ≡ 0 = omega arith in
         let half : mask / 2 ≡ k = omega arith in
-        subst (LowestAt (suc n) f mask) (ap₂ (λ (a b : ℕ). under a (trailingZeros n b)) (sym even) (sym half))
+        subst (Lowest (suc n) f mask) (ap₂ (λ (a b : ℕ). under a (trailingZeros n b)) (sym even) (sym half))
         (lowest-zero n f mask (trailingZeros n k) (omega arith) (omega arith) l (ih (omega arith)))
     go ih (no s) =
         let b = h 0 in
         let odd : mask % 2 ≡ 1 = omega arith in
-        subst (LowestAt (suc n) f mask) (ap (λ (a : ℕ). under a (trailingZeros n (mask / 2))) (sym odd)) (lowest-one n f mask (omega arith) (omega arith))
-
-pub lowest : (n : ℕ) (f : ℕ → ℕ) (mask : ℕ) → Flags f → mask ≡ maskOf n f → 0 < mask → Lowest n f mask
-lowest n f mask h e l =
-    let p = lowest-at n f mask h e l in
-    record { within = p .within; is-set = p .is-set; none = p .none; cleared = p .cleared }
+        subst (Lowest (suc n) f mask) (ap (λ (a : ℕ). under a (trailingZeros n (mask / 2))) (sym odd)) (lowest-one n f mask (omega arith) (omega arith))

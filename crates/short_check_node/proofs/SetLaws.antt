@@ -1,19 +1,20 @@
 -- The set of the values tried, from a threshold.
-use mathlib.Core.Path.{_≡_, refl, sym, ap, ap₂, _∙_, subst}
-use mathlib.Core.Bool.{Bool, true, false, cond}
+use mathlib.Core.Path.{_≡_, refl, ap, ap₂, _∙_}
+use mathlib.Core.Bool.{Bool, cond}
 use mathlib.Core.List.{List}
-use Prim.Native.Nat.{ℕ, zero, suc, _+_, _-_, _≤_, _<_, zero-le}
+use Prim.Native.Nat.{ℕ, zero, suc, _+_, _-_, _≤_, _<_}
 use native.Mathlib.Nat.{le-refl, add-zero}
 use native.Mathlib.Decide.{decLt}
 use native.Mathlib.Omega.{arith}
 use borrow.Author.Tests.{lt-ltb, le-ltb, eq-eqb, ne-eqb}
-use lib.Dec.{ltb, eqb}
+use lib.Dec.{eqb}
+use lib.Bits.{bitXor}
 use lib.ListN.{getD}
 use Rattle.vector.specs.Vector.{sumTo, AtMost}
 use Rattle.vector.proofs.Laws.{sum-ext, sum-none, sum-more, sum-first, sum-split, sum-part, sum-add}
 use Rattle.scms.specs.Tried.{countBelow, countEqual, countBefore}
-use Rattle.short_check_node.specs.Masks.{atLeastOne, oneIfBelow, belowAt, Threshold, Flags, maskOf, from, Cut, HasSet, AfterLowest}
-use Rattle.short_check_node.proofs.MaskLaws.{mask-parts}
+use Rattle.short_check_node.specs.Masks.{atLeastOne, oneIfBelow, belowAt, Threshold, Flags, maskOf, from, Cut, HasSet, AfterLowest, TriedSet}
+use Rattle.short_check_node.proofs.MaskLaws.{mask-parts, mask-without}
 use Rattle.short_check_node.proofs.CutLaws.{from-before, from-after, from-le}
 
 -- ---- how many values are tried
@@ -207,15 +208,15 @@ abbrev pub triedAt : (v : List ℕ) (t e c : ℕ) → ℕ
 triedAt v t e c = belowAt v (t + 1) c - from e (sameAt v t) c
 
 -- each once at most
-pub tried-flags : (v : List ℕ) (t e : ℕ) → Flags (triedAt v t e)
+tried-flags : (v : List ℕ) (t e : ℕ) → Flags (triedAt v t e)
 tried-flags v t e c = let a = below-flag (getD v c 0) (t + 1) in omega arith
 
 -- their number
-pub tried-mask : (v : List ℕ) (t e upto left : ℕ) → upto ≡ maskOf 64 (belowAt v (t + 1)) → left ≡ maskOf 64 (from e (sameAt v t))
-    → (left ≤ upto) × (upto - left ≡ maskOf 64 (triedAt v t e))
+tried-mask : (v : List ℕ) (t e upto left : ℕ) → upto ≡ maskOf 64 (belowAt v (t + 1)) → left ≡ maskOf 64 (from e (sameAt v t))
+    → bitXor upto left ≡ maskOf 64 (triedAt v t e)
 tried-mask v t e upto left u l =
-    let p = mask-parts 64 (belowAt v (t + 1)) (from e (sameAt v t)) (λ i s. let a = from-le e (sameAt v t) i in omega arith) in
-    (omega arith, omega arith)
+    ap₂ bitXor u l
+    ∙ mask-without 64 (belowAt v (t + 1)) (from e (sameAt v t)) (λ i. below-flag (getD v i 0) (t + 1)) (λ i. let a = from-le e (sameAt v t) i in omega arith)
 
 -- ---- the set of the values tried
 module _ (m : ℕ) (v : List ℕ) (t e : ℕ) (th : Threshold m v t) (cut : sumTo e (sameAt v t) ≡ m - countBelow v t) where
@@ -254,3 +255,24 @@ module _ (m : ℕ) (v : List ℕ) (t e : ℕ) (th : Threshold m v t) (cut : sumT
           let q = before-same v t c at in
           let part = sum-part e c (sameAt v t) (omega arith) in
           (λ z. absurd (omega arith), λ z. absurd (omega arith))
+
+  -- and none of them is above t
+  pub tried-small : (c : ℕ) → triedAt v t e c ≡ 1 → getD v c 0 ≤ t
+  tried-small c s = go (decLt t (getD v c 0))
+    where
+      go : Dec (t < getD v c 0) → getD v c 0 ≤ t
+      go (yes l) = let b = below-none (getD v c 0) (t + 1) (omega arith) in absurd (omega arith)
+      go (no l) = omega arith
+
+-- so the number is their set
+pub tried-set : (m : ℕ) (v : List ℕ) (t few upto left : ℕ) → Threshold m v t → few ≡ countBelow v t → upto ≡ maskOf 64 (belowAt v (t + 1))
+    → Cut (sameAt v t) (m - few) left → TriedSet m v t (bitXor upto left)
+tried-set m v t few upto left th f u k =
+    let before : sumTo (k .at) (sameAt v t) ≡ m - countBelow v t = (let b = k .before in omega arith) in
+    record {
+      set = triedAt v t (k .at);
+      flags = tried-flags v t (k .at);
+      is-mask = tried-mask v t (k .at) upto left u (k .is-left);
+      small = λ c l s. tried-small m v t (k .at) th before c s;
+      values = tried-iff m v t (k .at) th before;
+    }

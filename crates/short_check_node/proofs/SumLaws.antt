@@ -1,9 +1,9 @@
 -- The laws of the least sums over a set of values.
-use mathlib.Core.Path.{_≡_, refl, sym, ap, ap₂, _∙_, subst}
-use mathlib.Core.Bool.{Bool, true, false, cond, _&&_}
+use mathlib.Core.Path.{_≡_, sym, ap, ap₂, _∙_, subst}
+use mathlib.Core.Bool.{Bool, cond, _&&_}
 use mathlib.Core.Logic.{_⊎_, inl, inr, ⊎-elim}
 use mathlib.Core.List.{List}
-use Prim.Native.Nat.{ℕ, zero, suc, _+_, _-_, _*_, _/_, _%_, _≤_, _<_}
+use Prim.Native.Nat.{ℕ, _+_, _-_, _*_, _/_, _%_, _≤_, _<_}
 use native.Mathlib.Decide.{decLt}
 use native.Mathlib.Omega.{arith}
 use borrow.Author.Tests.{lt-ltb, le-ltb}
@@ -11,20 +11,19 @@ use lib.Dec.{T, ltb, eqb, ltb→lt, eqb→eq}
 use lib.ListN.{length, getD}
 use lib.Bits.{bitAnd}
 use lib.Count.{trailingZeros}
-use Rattle.vector.specs.Vector.{tabulate}
 use Rattle.vector.proofs.Laws.{tabulate-by}
 use Rattle.vector.proofs.All.{and-left, and-right, all, all-at}
 use Rattle.gf64.specs.Field.{_⊕_}
 use Rattle.gf64.proofs.SumLaws.{sum-lt}
 use Rattle.reorder.specs.Order.{Small, Mapped}
 use Rattle.scms.specs.Nodes.{sumAt, checkTried}
-use Rattle.scms.specs.Tried.{countBefore, tried, leastOver}
+use Rattle.scms.specs.Tried.{tried, leastOver}
 use Rattle.scms.proofs.TriedLaws.{Tried, over-is, smallest-tried}
 use Rattle.scms.specs.Decision.{smallest}
 use Rattle.check_node.specs.Steps.{signedRank, signedMin, AreCopies}
 use Rattle.check_node.proofs.CopyLaws.{copies-at}
-use Rattle.short_check_node.specs.Masks.{Flags, maskOf, sourceAt, withSum, LeastSums}
-use Rattle.short_check_node.proofs.MaskLaws.{mask-ext, mask-none, without, without-same, without-other, lowest}
+use Rattle.short_check_node.specs.Masks.{Flags, maskOf, TriedSet, sourceAt, withSum, LeastSums}
+use Rattle.short_check_node.proofs.MaskLaws.{mask-none, without, without-same, without-other, without-flags, lowest}
 
 -- ---- where the copies are read
 
@@ -166,7 +165,7 @@ module _ {theta copies ordered : List ℕ} (h : AreCopies 8 theta copies) (st : 
       = λ b lb. subst (Kept (getD r b 0) (sumAt theta ordered b c)) (sym (sums .done b (omega arith) lb)) (with-kept h st sx b c (getD r b 0) lb (q .within) (held-lt b lb)) in
       record {
         left = without c (p .left);
-        flags = λ i. fewer c i (decLt i c) (decLt c i);
+        flags = without-flags c (p .left) (p .flags);
         is-rest = q .cleared;
         part = λ i e. still c i e (decLt i c) (decLt c i);
         bounded = λ b i lb li one none. bound c b i one none (kept b lb) (p .bounded b i lb li one) (decLt i c) (decLt c i);
@@ -177,14 +176,6 @@ module _ {theta copies ordered : List ℕ} (h : AreCopies 8 theta copies) (st : 
             (kept b lb .either);
       }
     where
-      fewer : (c i : ℕ) → Dec (i < c) → Dec (c < i) → without c (p .left) i ≤ 1
-      fewer c i (yes s) _ = let e = without-other c (p .left) i (λ z. absurd (omega arith)) in let l = p .flags i in omega arith
-      fewer c i (no s) (yes t) = let e = without-other c (p .left) i (λ z. absurd (omega arith)) in let l = p .flags i in omega arith
-      fewer c i (no s) (no t) =
-          let z : i ≡ c = omega arith in
-          let e = ap (without c (p .left)) z ∙ without-same c (p .left) in
-          omega arith
-
       still : (c i : ℕ) → without c (p .left) i ≡ 1 → Dec (i < c) → Dec (c < i) → f i ≡ 1
       still c i e (yes s) _ = p .part i (sym (without-other c (p .left) i (λ z. absurd (omega arith))) ∙ e)
       still c i e (no s) (yes t) = p .part i (sym (without-other c (p .left) i (λ z. absurd (omega arith))) ∙ e)
@@ -208,16 +199,15 @@ module _ {theta copies ordered : List ℕ} (h : AreCopies 8 theta copies) (st : 
           subst (λ (j : ℕ). getD next b 0 ≤ sumAt theta ordered b j) z (k .second)
 
 -- ---- the least sums over the values tried are the entries of the check node
-pub tried-node : (m : ℕ) (theta ordered : List ℕ) (f : ℕ → ℕ) (r : List ℕ) → 1 ≤ m → Small theta → Small ordered
-    → ((c : ℕ) → c < 64 → (f c ≡ 1 → countBefore ordered c < m) × (countBefore ordered c < m → f c ≡ 1))
-    → LeastSums f (sumAt theta ordered) r → r ≡ checkTried m theta ordered
+pub tried-node : (m : ℕ) (theta ordered : List ℕ) (t mask : ℕ) (r : List ℕ) → 1 ≤ m → Small theta → Small ordered
+    → (k : TriedSet m ordered t mask) → LeastSums (k .set) (sumAt theta ordered) r → r ≡ checkTried m theta ordered
 unfolding checkTried
-tried-node m theta ordered f r lm st sx iff s = tabulate-by 0 64 _ r (s .long) (λ b lb. entry b lb (s .attained b lb))
+tried-node m theta ordered t mask r lm st sx k s = tabulate-by 0 64 _ r (s .long) (λ b lb. entry b lb (s .attained b lb))
   where
     bound : (b c : ℕ) → b < 64 → Tried m ordered c → getD r b 0 ≤ sumAt theta ordered b c
-    bound b c lb t = s .bounded b c lb (t .0) (iff c (t .0) .1 (t .1))
+    bound b c lb t = s .bounded b c lb (t .0) (k .values c (t .0) .1 (t .1))
 
-    entry : (b : ℕ) → b < 64 → (getD r b 0 ≡ 32767) ⊎ ((c : ℕ) × (c < 64) × (f c ≡ 1) × (getD r b 0 ≡ sumAt theta ordered b c))
+    entry : (b : ℕ) → b < 64 → (getD r b 0 ≡ 32767) ⊎ ((c : ℕ) × (c < 64) × (k .set c ≡ 1) × (getD r b 0 ≡ sumAt theta ordered b c))
         → getD r b 0 ≡ leastOver (tried m ordered) (sumAt theta ordered b)
     entry b lb (inl e) =
         let t = smallest-tried m ordered lm in
@@ -226,4 +216,4 @@ tried-node m theta ordered f r lm st sx iff s = tabulate-by 0 64 _ r (s .long) (
         let y = sx .most (smallest ordered) (t .0) in
         absurd (omega arith)
     entry b lb (inr q) =
-        over-is m ordered (sumAt theta ordered b) (getD r b 0) (q .0) (q .1, iff (q .0) (q .1) .0 (q .2)) (sym (q .3)) (λ c t. bound b c lb t)
+        over-is m ordered (sumAt theta ordered b) (getD r b 0) (q .0) (q .1, k .values (q .0) (q .1) .0 (q .2)) (sym (q .3)) (λ c t. bound b c lb t)

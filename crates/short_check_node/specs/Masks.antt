@@ -11,7 +11,7 @@ use Rattle.vector.specs.Vector.{sumTo}
 use Rattle.gf64.specs.Field.{_⊕_}
 use Rattle.reorder.specs.Order.{Small}
 use Rattle.scms.specs.Nodes.{sumAt}
-use Rattle.scms.specs.Tried.{countBelow}
+use Rattle.scms.specs.Tried.{countBelow, countBefore}
 use Rattle.check_node.specs.Steps.{signedMin, wrapped, AreCopies}
 
 -- how many values are tried: the number that is asked for, and 1 where that is 0
@@ -63,6 +63,20 @@ pub record HasSet (mask n : ℕ) : Type 0 where
 -- what `after_lowest` leaves of a number that is a set of n values at least
 pub record AfterLowest (mask n left : ℕ) : Type 0 where
   pub cut : (f : ℕ → ℕ) → Flags f → mask ≡ maskOf 64 f → n ≤ sumTo 64 f → Cut f n left
+
+-- a number is the set of the m values tried, whose penalties are not above t
+pub record TriedSet (m : ℕ) (v : List ℕ) (t mask : ℕ) : Type 0 where
+  pub set : ℕ → ℕ
+  pub flags : Flags set
+  pub is-mask : mask ≡ maskOf 64 set
+  pub small : (c : ℕ) → c < 64 → set c ≡ 1 → getD v c 0 ≤ t
+  pub values : (c : ℕ) → c < 64 → (set c ≡ 1 → countBefore v c < m) × (countBefore v c < m → set c ≡ 1)
+
+-- what `others_replaced` leaves of the penalties: those of the set that the number is, and 8,191 for all others
+pub record OthersReplaced (v : List ℕ) (mask : ℕ) (r : List ℕ) : Type 0 where
+  pub long : length r ≡ 64
+  pub kept : (f : ℕ → ℕ) → Flags f → mask ≡ maskOf 64 f → (c : ℕ) → c < 64 → f c ≡ 1 → getD r c 0 ≡ getD v c 0
+  pub others : (f : ℕ → ℕ) → Flags f → mask ≡ maskOf 64 f → (c : ℕ) → c < 64 → f c ≡ 0 → getD r c 0 ≡ 8191
 
 -- where the copies have what value b is summed with at value c
 unfoldable pub sourceAt : (c b : ℕ) → ℕ

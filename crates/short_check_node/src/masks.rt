@@ -1,10 +1,12 @@
 // Sets of values as numbers of 64 bits: bit c is 1 where value c belongs to the set.
+use crate::counts::count_below;
 use crate::counts::one_if_below;
 ghost use mathlib.Core.Path.{_≡_};
 ghost use Prim.Native.Nat.{_+_, _*_, _≤_, _<_};
-ghost use lib.ListN.{getD};
+ghost use lib.ListN.{length, getD};
 ghost use Rattle.vector.specs.Vector.{tabulate, AtMost};
-ghost use Rattle.short_check_node.specs.Masks.{belowAt, maskOf, HasSet, AfterLowest};
+ghost use Rattle.short_check_node.specs.Masks.{belowAt, Threshold, maskOf, HasSet, AfterLowest, TriedSet};
+ghost use Rattle.short_check_node.specs.Masks.{OthersReplaced};
 
 // For each value 1 where its penalty is below t, and else 0.
 fn flags_below(v: &[u16; 64], t: u16) -> [u16; 64]
@@ -32,11 +34,20 @@ fn byte_at(f: &[u16; 64], at: usize) -> u16
     requires { ⌜ AtMost 1 (now f) × (at ≤ 56) ⌝ }
     ensures { λ r. ⌜ (r ≡ maskOf 8 (λ i. getD (now (f .entry)) (at + i) 0)) × (r < 256) ⌝ }
 {
-    byte_of(f[at], f[at + 1], f[at + 2], f[at + 3], f[at + 4], f[at + 5], f[at + 6], f[at + 7])
+    byte_of(
+        f[at],
+        f[at + 1],
+        f[at + 2],
+        f[at + 3],
+        f[at + 4],
+        f[at + 5],
+        f[at + 6],
+        f[at + 7],
+    )
 }
 
 // The values whose penalty is below t.
-pub(crate) fn mask_below(v: &[u16; 64], t: u16) -> u64
+fn mask_below(v: &[u16; 64], t: u16) -> u64
     ensures { λ r. ⌜ r ≡ maskOf 64 (belowAt (now (v .entry)) t) ⌝ }
 {
     let f = flags_below(v, t);
@@ -50,7 +61,7 @@ pub(crate) fn mask_below(v: &[u16; 64], t: u16) -> u64
 }
 
 // A set without its n smallest values.
-pub(crate) fn after_lowest(mask: u64, n: u16) -> u64
+fn after_lowest(mask: u64, n: u16) -> u64
     requires { ⌜ HasSet mask n ⌝ }
     ensures { λ r. ⌜ AfterLowest mask n r ⌝ }
 {
@@ -61,4 +72,32 @@ pub(crate) fn after_lowest(mask: u64, n: u16) -> u64
         k += 1;
     }
     rest
+}
+
+// The m values whose penalties are smallest, ties to the smaller value: those below the threshold t, and of those at
+// it the smallest.
+pub(crate) fn tried_set(ordered: &[u16; 64], t: u16, m: u16) -> u64
+    requires { ⌜ Threshold m (now ordered) t ⌝ }
+    ensures { λ r. ⌜ TriedSet m (now (ordered .entry)) t r ⌝ }
+{
+    let few = count_below(ordered, t);
+    let below = mask_below(ordered, t);
+    let upto = mask_below(ordered, t + 1);
+    let left = after_lowest(upto - below, m - few);
+    upto ^ left
+}
+
+// The penalties with those of all values outside a set replaced by 8,191.
+pub(crate) fn others_replaced(ordered: &[u16; 64], mask: u64) -> [u16; 64]
+    requires { ⌜ length (now ordered) ≡ 64 ⌝ }
+    ensures { λ r. ⌜ OthersReplaced (now (ordered .entry)) mask r ⌝ }
+{
+    let mut r = *ordered;
+    let mut rest = 18446744073709551615 - mask;
+    while rest != 0 {
+        let c = (u64::trailing_zeros(rest) as usize) % 64;
+        r[c] = 8191;
+        rest = rest & (rest - 1);
+    }
+    r
 }

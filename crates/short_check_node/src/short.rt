@@ -13,14 +13,19 @@ fn at_least_one(candidates: usize) -> u16
     requires { ⌜ candidates < 64 ⌝ }
     ensures { λ r. ⌜ r ≡ atLeastOne candidates ⌝ }
 {
-    if candidates == 0 { 1 } else { candidates as u16 }
+    if candidates == 0 {
+        1
+    } else {
+        candidates as u16
+    }
 }
 
 // A check node that tries some values only: for each value b the least, over the `candidates` values c whose penalties
 // of phi are smallest, ties to the smaller c, of theta's penalty at b plus c (the field's sum), plus phi's at c in the
 // order of c. At least one value is tried, and with 64 or more all are. Of each penalty the thirteen low bits count.
 pub fn short_check_node(theta: &[u16; 64], ordered: &[u16; 64], candidates: usize) -> [u16; 64]
-    ensures { λ r. ⌜ r ≡ checkTried (atLeastOne candidates) (lowBits (now (theta .entry))) (lowBits (now (ordered .entry))) ⌝ }
+    ensures { λ r. ⌜ r ≡ checkTried (atLeastOne candidates) (lowBits (now (theta .entry)))
+        (lowBits (now (ordered .entry))) ⌝ }
 {
     if 63 < candidates {
         return check_node(theta, ordered);
@@ -28,5 +33,5 @@ pub fn short_check_node(theta: &[u16; 64], ordered: &[u16; 64], candidates: usiz
     let m = at_least_one(candidates);
     let low_theta = low_bits(theta);
     let low_ordered = low_bits(ordered);
-    tried_sums(low_theta, &low_ordered, m)
+    tried_sums(&low_theta, &low_ordered, m)
 }

@@ -1,9 +1,10 @@
 // The least sums over a set of values.
-use check_node::copies;
-use crate::counts::count_below;
+use crate::counts::largest_of;
 use crate::counts::threshold;
-use crate::masks::after_lowest;
-use crate::masks::mask_below;
+use crate::masks::others_replaced;
+use crate::masks::tried_set;
+use check_node::check_node;
+use check_node::copies;
 ghost use mathlib.Core.Path.{_≡_};
 ghost use Prim.Native.Nat.{_+_, _*_, _≤_, _<_};
 ghost use lib.ListN.{length};
@@ -73,16 +74,26 @@ fn set_sums(copies: &[u16; 512], ordered: &[u16; 64], mask: u64) -> [u16; 64]
     r
 }
 
-// For each value b the least of its sums at the m values whose penalties are smallest, ties to the smaller value.
-pub(crate) fn tried_sums(theta: [u16; 64], ordered: &[u16; 64], m: u16) -> [u16; 64]
-    requires { ⌜ Small theta × Small (now ordered) × (1 ≤ m) × (m ≤ 64) ⌝ }
-    ensures { λ r. ⌜ r ≡ checkTried m theta (now (ordered .entry)) ⌝ }
+// Above this number of values it is quicker to sum all 64.
+const MANY: u16 = 40;
+
+// For each value b the least of its sums at the m values whose penalties are smallest, ties to the smaller value. Where
+// many are tried, the full check node gives it: with 8,191 for the penalty of each other value, whose sums are then no
+// less than those of a value that is tried, as long as no penalty of theta and the threshold add up to more.
+pub(crate) fn tried_sums(theta: &[u16; 64], ordered: &[u16; 64], m: u16) -> [u16; 64]
+    requires { ⌜ Small (now theta) × Small (now ordered) × (1 ≤ m) × (m ≤ 64) ⌝ }
+    ensures { λ r. ⌜ r ≡ checkTried m (now (theta .entry)) (now (ordered .entry)) ⌝ }
 {
-    let copied = copies(theta);
     let t = threshold(ordered, m);
-    let few = count_below(ordered, t);
-    let below = mask_below(ordered, t);
-    let upto = mask_below(ordered, t + 1);
-    let left = after_lowest(upto - below, m - few);
-    set_sums(&copied, ordered, upto - left)
+    let set = tried_set(ordered, t, m);
+    if MANY < m {
+        let most = largest_of(theta);
+        if most + t < 8192 {
+            let w = others_replaced(ordered, set);
+            return check_node(theta, &w);
+        }
+    }
+    let own = *theta;
+    let copied = copies(own);
+    set_sums(&copied, ordered, set)
 }

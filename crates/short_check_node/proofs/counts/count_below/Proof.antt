@@ -5,7 +5,7 @@ use native.Mathlib.Omega.{arith}
 use borrow.Author.Needs.{needs}
 use lib.ListN.{getD}
 use Rattle.vector.specs.Vector.{sumTo}
-use Rattle.vector.proofs.Laws.{sum-more, sum-le}
+use Rattle.vector.proofs.Laws.{sum-more}
 use Rattle.scms.specs.Tried.{countBelow}
 use Rattle.short_check_node.specs.Masks.{belowAt}
 use Rattle.short_check_node.proofs.SetLaws.{below-flag}

@@ -1,6 +1,5 @@
 -- `one_if_below` meets its contract, in each of its two cases.
 use mathlib.Core.Path.{sym}
-use native.Mathlib.Omega.{arith}
 use Rattle.short_check_node.proofs.SetLaws.{below-one, below-none}
 use Rattle.short_check_node.proofs.counts.one_if_below.Statement.{statement}
 use Rattle.short_check_node.proofs.counts.one_if_below.Tie as tie

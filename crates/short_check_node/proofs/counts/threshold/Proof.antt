@@ -1,11 +1,10 @@
 -- `threshold` meets its contract: it is at least t and below t + n.
-use mathlib.Core.Path.{_≡_, sym, ap, _∙_, subst}
+use mathlib.Core.Path.{_≡_, sym, subst}
 use mathlib.Core.Logic.{⊎-elim}
-use Prim.Native.Nat.{ℕ, _+_, _-_, _/_, _≤_, _<_}
+use Prim.Native.Nat.{ℕ, _+_, _-_, _/_, _≤_}
 use native.Mathlib.Omega.{arith}
 use borrow.Author.Needs.{needs}
 use Rattle.scms.specs.Tried.{countBelow}
-use Rattle.short_check_node.specs.Masks.{Threshold}
 use Rattle.short_check_node.proofs.SetLaws.{count-none, count-all, count-mono}
 use Rattle.short_check_node.proofs.counts.threshold.Statement.{statement}
 use Rattle.short_check_node.proofs.counts.threshold.Tie as tie
@@ -45,18 +44,18 @@ loop-again c =
     let counted = c .before .count-below .ensures in
     ⊎-elim
     (λ w.
-        let e = w .1 in
-        let l = w .0 .taken in (
-          omega arith,
-          omega arith,
-          subst (λ (k : ℕ). countBelow v k ≤ a .m) (sym e) (omega arith),
-          subst (λ (k : ℕ). a .m ≤ countBelow v k) (let s : t + n ≡ c .if1 .t + (n - n / 2) = omega arith in s) (inv .3),
-        ))
+    let e = w .1 in
+    let l = w .0 .taken in (
+      omega arith,
+      omega arith,
+      subst (λ (k : ℕ). countBelow v k ≤ a .m) (sym e) (omega arith),
+      subst (λ (k : ℕ). a .m ≤ countBelow v k) (let s : t + n ≡ c .if1 .t + (n - n / 2) = omega arith in s) (inv .3),
+    ))
     (λ w.
-        let e = w .1 in
-        let l = w .0 .left in
-        let more = count-mono v (t + n / 2) (c .if1 .t + (n - n / 2)) (omega arith) in
-        (omega arith, omega arith, subst (λ (k : ℕ). countBelow v k ≤ a .m) (sym e) (inv .2), omega arith))
+    let e = w .1 in
+    let l = w .0 .left in
+    let more = count-mono v (t + n / 2) (c .if1 .t + (n - n / 2)) (omega arith) in
+    (omega arith, omega arith, subst (λ (k : ℕ). countBelow v k ≤ a .m) (sym e) (inv .2), omega arith))
     (c .if1 .came)
 
 returns : tie.Need-returns Inv-loop μ-loop

@@ -1,10 +1,10 @@
 -- `after_lowest` meets its contract: k values are taken.
-use mathlib.Core.Path.{_≡_, refl, subst}
-use Prim.Native.Nat.{ℕ, _+_, _-_, _≤_}
+use mathlib.Core.Path.{_≡_, subst}
+use Prim.Native.Nat.{ℕ, _-_, _≤_}
 use native.Mathlib.Omega.{arith}
 use borrow.Author.Needs.{needs}
 use Rattle.vector.specs.Vector.{sumTo}
-use Rattle.short_check_node.specs.Masks.{Flags, maskOf, Cut, AfterLowest}
+use Rattle.short_check_node.specs.Masks.{Flags, maskOf, Cut}
 use Rattle.short_check_node.proofs.CutLaws.{cut-none, cut-more-left, cut-more}
 use Rattle.short_check_node.proofs.masks.after_lowest.Statement.{statement}
 use Rattle.short_check_node.proofs.masks.after_lowest.Tie as tie

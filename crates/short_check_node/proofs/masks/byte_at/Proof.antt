@@ -1,6 +1,6 @@
 -- `byte_at` meets its contract: the eight entries are the bits.
-use mathlib.Core.Path.{_≡_, sym, ap}
-use Prim.Native.Nat.{ℕ, _+_, _≤_, _<_}
+use mathlib.Core.Path.{sym, ap}
+use Prim.Native.Nat.{ℕ, _+_}
 use native.Mathlib.Nat.{add-zero}
 use native.Mathlib.Omega.{arith}
 use borrow.Author.Needs.{needs}
@@ -15,8 +15,14 @@ byte-of-requires c κs =
     let h = start .pre .0 in
     let at = start .args .at in
     let l = start .pre .1 in (
-      h at (omega arith), h (at + 1) (omega arith), h (at + 2) (omega arith), h (at + 3) (omega arith), h (at + 4) (omega arith),
-      h (at + 5) (omega arith), h (at + 6) (omega arith), h (at + 7) (omega arith),
+      h at (omega arith),
+      h (at + 1) (omega arith),
+      h (at + 2) (omega arith),
+      h (at + 3) (omega arith),
+      h (at + 4) (omega arith),
+      h (at + 5) (omega arith),
+      h (at + 6) (omega arith),
+      h (at + 7) (omega arith),
     )
 
 returns : tie.Need-returns

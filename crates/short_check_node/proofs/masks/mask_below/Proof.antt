@@ -1,7 +1,7 @@
 -- `mask_below` meets its contract: the bits of the values from 8 × block on are there.
-use mathlib.Core.Path.{_≡_, refl, sym, ap, _∙_, subst}
+use mathlib.Core.Path.{_≡_, refl, ap, _∙_}
 use mathlib.Core.List.{List}
-use Prim.Native.Nat.{ℕ, _+_, _-_, _*_, _^_, _≤_, _<_}
+use Prim.Native.Nat.{ℕ, _+_, _-_, _*_, _≤_, _<_}
 use native.Mathlib.Omega.{arith}
 use borrow.Author.Needs.{needs}
 use lib.ListN.{getD}
@@ -60,7 +60,7 @@ loop-again c =
     let next = head .loop .block in (
       omega arith,
       mask-block (belowAt (a .v .now) (a .t)) (next - 1) next (head .loop .mask) (c .byte-at .result) (omega arith) (omega arith) (head .loop .inv .1)
-      (c .byte-at .ensures .0 ∙ mask-ext 8 _ _ (λ i l. flag-at (head .before) (8 * (next - 1) + i) (omega arith))),
+          (c .byte-at .ensures .0 ∙ mask-ext 8 _ _ (λ i l. flag-at (head .before) (8 * (next - 1) + i) (omega arith))),
     )
 
 returns : tie.Need-returns Inv-loop μ-loop

@@ -1,9 +1,6 @@
 -- `at_least_one` meets its contract, in each of its two cases.
-use mathlib.Core.Path.{_≡_, refl, ap, sym}
-use Prim.Native.Nat.{ℕ, zero, suc, _≤_, _<_}
 use native.Mathlib.Omega.{arith}
 use borrow.Author.Needs.{needs}
-use Rattle.short_check_node.specs.Masks.{atLeastOne}
 use Rattle.short_check_node.proofs.SetLaws.{asked-none, asked-some}
 use Rattle.short_check_node.proofs.short.at_least_one.Statement.{statement}
 use Rattle.short_check_node.proofs.short.at_least_one.Tie as tie

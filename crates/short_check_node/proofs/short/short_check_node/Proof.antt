@@ -1,6 +1,6 @@
 -- `short_check_node` meets its contract: with 64 or more all values are tried.
-use mathlib.Core.Path.{_≡_, sym, ap, ap₂, _∙_}
-use Prim.Native.Nat.{ℕ, _≤_}
+use mathlib.Core.Path.{sym, ap, ap₂, _∙_}
+use Prim.Native.Nat.{ℕ}
 use native.Mathlib.Omega.{arith}
 use borrow.Author.Needs.{needs}
 use Rattle.reorder.specs.Order.{lowBits}
@@ -21,24 +21,26 @@ returns c =
 
 tried-sums-requires : tie.Need-tried-sums-requires
 tried-sums-requires c κs =
-    let a = c .before .before .before .before .before .args in
-    let m = c .before .before .before .at-least-one .ensures in
+    let ordered = c .before .before in
+    let counted = ordered .before .before in
+    let a = counted .before .before .args in
+    let m = counted .at-least-one .ensures in
     let l = asked-most (a .candidates) (omega arith) in (
-      low-small (a .theta .now) (c .before .before .low-bits .ensures),
-      low-small (a .ordered .now) (c .before .low-bits2 .ensures),
+      low-small (a .theta .now) (ordered .before .low-bits .ensures),
+      low-small (a .ordered .now) (ordered .low-bits2 .ensures),
       omega arith,
       omega arith,
     )
 
 returns-2 : tie.Need-returns-2
 returns-2 c =
-    let a = c .before .before .before .before .before .before .args in
-    let theta = c .before .before .before .low-bits in
-    let ordered = c .before .before .low-bits2 in
-    let m = c .before .before .before .before .at-least-one .ensures in
+    let ordered = c .before .before .before in
+    let theta = ordered .before in
+    let counted = theta .before in
+    let a = counted .before .before .args in
     c .tried-sums .ensures
-    ∙ ap (λ (x : ℕ). checkTried x (theta .result) (ordered .result)) m
-    ∙ ap₂ (checkTried (atLeastOne (a .candidates))) (theta .ensures) (ordered .ensures)
+    ∙ ap (λ (x : ℕ). checkTried x (theta .low-bits .result) (ordered .low-bits2 .result)) (counted .at-least-one .ensures)
+    ∙ ap₂ (checkTried (atLeastOne (a .candidates))) (theta .low-bits .ensures) (ordered .low-bits2 .ensures)
 
 pub short-check-node-spec : {M : Type 1} → statement M
 short-check-node-spec =

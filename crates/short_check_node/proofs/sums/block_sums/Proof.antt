@@ -1,13 +1,13 @@
 -- `block_sums` meets its contract: the values before i of the block have their sums.
-use mathlib.Core.Path.{_≡_, refl, ap, _∙_}
-use Prim.Native.Nat.{ℕ, _+_, _-_, _*_, _/_, _%_, _≤_, _<_}
+use mathlib.Core.Path.{_∙_}
+use Prim.Native.Nat.{_+_, _-_, _*_, _/_, _≤_, _<_}
 use native.Mathlib.Omega.{arith}
 use borrow.Author.Needs.{needs}
 use lib.Bits.{bitXor, xor-lt}
 use Rattle.gf64.specs.Field.{_⊕_}
 use Rattle.reorder.specs.Order.{Mapped}
 use Rattle.reorder.proofs.LoopLaws.{map-none, map-more, map-all}
-use Rattle.short_check_node.specs.Masks.{sourceAt, withSum}
+use Rattle.short_check_node.specs.Masks.{withSum}
 use Rattle.short_check_node.proofs.SumLaws.{block-with}
 use Rattle.short_check_node.proofs.sums.block_sums.Statement.{statement}
 use Rattle.short_check_node.proofs.sums.block_sums.Tie as tie
@@ -40,8 +40,8 @@ loop-again c =
     let h = head .loop .inv .0 in
     let n = 8 * a .block + head .loop .i in (
       map-more h (omega arith) (omega arith) (omega arith)
-      (c .smaller .ensures
-      ∙ block-with (a .copies .now) (a .x) (a .c) (a .block) (head .loop .i) _ _ _ (omega arith) (h .later n (omega arith)) (c .before .wrapping-add-u16 .ensures)),
+          (c .smaller .ensures
+          ∙ block-with (a .copies .now) (a .x) (a .c) (a .block) (head .loop .i) _ _ _ (omega arith) (h .later n (omega arith)) (c .before .wrapping-add-u16 .ensures)),
       omega arith,
       head .loop .inv .2,
     )

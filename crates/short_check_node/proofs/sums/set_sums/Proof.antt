@@ -1,17 +1,17 @@
 -- `set_sums` meets its contract: the sums of the values that are no longer left are made.
-use mathlib.Core.Path.{_≡_, refl, sym, ap, _∙_, subst}
+use mathlib.Core.Path.{_≡_, refl}
 use mathlib.Core.List.{List}
-use Prim.Native.Nat.{ℕ, _+_, _-_, _%_, _≤_, _<_}
+use Prim.Native.Nat.{ℕ, _-_}
 use native.Mathlib.Omega.{arith}
 use borrow.Author.Needs.{needs}
-use lib.ListN.{length, getD}
-use lib.Bits.{bitAnd, and-le-r}
-use lib.Count.{trailingZeros, trailing-le}
+use lib.ListN.{length}
+use lib.Bits.{and-le-r}
+use lib.Count.{trailing-le}
 use Rattle.vector.proofs.All.{all}
-use Rattle.reorder.specs.Order.{Small, Mapped}
+use Rattle.reorder.specs.Order.{Small}
 use Rattle.scms.specs.Nodes.{sumAt}
 use Rattle.check_node.specs.Steps.{AreCopies}
-use Rattle.short_check_node.specs.Masks.{Flags, maskOf, withSum}
+use Rattle.short_check_node.specs.Masks.{Flags, maskOf}
 use Rattle.short_check_node.proofs.SumLaws.{Progress, none-yet, all-summed, one-more}
 use Rattle.short_check_node.proofs.sums.set_sums.Statement.{statement}
 use Rattle.short_check_node.proofs.sums.set_sums.Tie as tie
