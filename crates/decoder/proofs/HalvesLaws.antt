@@ -13,7 +13,7 @@ use Rattle.polar.specs.Join.{Joined}
 use Rattle.polar.proofs.Numbers.{two-pow}
 use Rattle.polar.proofs.TreeLaws.{number-lt, place-of, map1-at, map3-at, map4-at, all-by, all-at, ext-at, leaves-at}
 use Rattle.scms.specs.Nodes.{checkNodeBy, lowered, variableNode, clippedEntries}
-use Rattle.scms.specs.Halves.{Vectors, BlockAnswer, frameTree, checkNodes, variableNodes, clippedNodes, takenNodes, decodeTree, checkNodesBy, decodeTreeBy}
+use Rattle.scms.specs.Halves.{Vectors, BlockAnswer, frameTree, checkNodes, variableNodes, clippedNodes, takenNodes, checkNodesBy, decodeTreeBy}
 use Rattle.scms.proofs.TreeSums.{tree-sum}
 use Rattle.scms.proofs.TreeLists.{frame-at}
 use Rattle.scms.proofs.ByHalves.{same-three}

@@ -75,7 +75,8 @@ module _ (block : BlockAt) (half : ℕ) (cs source : List ℕ) where
 
   -- the check node of kernel t, made from the block's vectors
   abbrev pub checkAt : ℕ → List ℕ
-  checkAt t = checkNodeBy (block .candidates) (coefAt t) (thetaAt (block .at) source t) (phiAt (block .at) half source t)
+  checkAt t =
+      checkNodeBy (block .candidates) (coefAt t) (thetaAt (block .at) source t) (phiAt (block .at) half source t)
 
   -- those of the first `count` kernels stand in another list after the block's vectors
   abbrev pub AreCheckNodes : (count : ℕ) (target : List ℕ) → Type 0

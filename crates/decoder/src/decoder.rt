@@ -28,11 +28,11 @@ fn clear(s: &mut [u16])
 
 // Decodes a frame: 64 penalties of at most 2^qc - 1, a 0 among them, for each of the N = 2^n places, by the code with n
 // layers, this map and these coefficients, at the internal precision qm. A check node tries as many values as
-// `candidates` says, 1 to 64: 64 are all, the full rule. Answers the count of clipped entries, with the symbols of the N
-// places, the report (the 64 penalties held for each place when it was decided) and the totals (for each place what was
-// taken off along its line: with 64 candidates and in an unclipped frame the least total of all words that begin with
-// the symbols decided before it) in the buffers lent for them, and the work buffer, of 65 N numbers, all zeros; or the
-// first refusal of 1, 2, 3, 13, 4, 5, 6, 8 and 9 that fits, in this order, and every buffer as it came.
+// `candidates` says, 1 to 64: 64 are all, the full rule. Answers the count of clipped entries, with the symbols of the
+// N places, the report (the 64 penalties held for each place when it was decided) and the totals (for each place what
+// was taken off along its line: with 64 candidates and in an unclipped frame the least total of all words that begin
+// with the symbols decided before it) in the buffers lent for them, and the work buffer, of 65 N numbers, all zeros; or
+// the first refusal of 1, 2, 3, 13, 4, 5, 6, 8 and 9 that fits, in this order, and every buffer as it came.
 pub fn decode(
     n: usize,
     map: &[u8],

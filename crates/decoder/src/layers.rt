@@ -13,8 +13,8 @@ ghost use Rattle.gf64.specs.ProductTable.{productTable};
 ghost use Rattle.decoder.specs.Parts.{KernelsGiven, CheckNodesWritten};
 ghost use Rattle.decoder.specs.Parts.{LayerGiven, FirstSymbols, OrderedGiven, SumFits, VariableNodesWritten};
 
-// The check nodes of a block's kernels, each of which tries as many values as the block says. Phi's vectors are put in the order of c for them, by the table of products that
-// is lent, and kept so in `room` for the variable nodes.
+// The check nodes of a block's kernels, each of which tries as many values as the block says. Phi's vectors are put in
+// the order of c for them, by the table of products that is lent, and kept so in `room` for the variable nodes.
 pub(crate) fn check_nodes(
     block: BlockAt,
     half: usize,

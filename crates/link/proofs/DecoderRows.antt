@@ -1,16 +1,15 @@
 -- The worked rows on what the decoder gives hold. They have m = 64, so each is computed from the answer by halves with
 -- full check nodes.
-use mathlib.Core.Path.{_≡_, refl, sym, ap, ap₂, _∙_}
+use mathlib.Core.Path.{_≡_, refl, ap₂, _∙_}
 use mathlib.Core.List.{List, [], _∷_, _++_, map}
-use Prim.Native.Nat.{ℕ, _^_, _<_}
-use native.Mathlib.Omega.{arith}
+use Prim.Native.Nat.{ℕ, _<_}
 use lib.Dec.{lit<}
 use lib.ListN.{getD, set, replicate}
 use Rattle.vector.specs.Vector.{tabulate, vectorAt, joined, sumTo, leastTo, least, lessLeast}
 use Rattle.refusal.specs.Table.{refusalOf}
 use Rattle.refusal.specs.Tests.{outside, anyOutside, anyTo, unequal}
 use Rattle.gf64.specs.Field.{_⊕_, _⊙_, timesA, productBits, lowSix}
-use Rattle.polar_code.specs.Code.{Code, kindOf, messageCount, messagePlaces}
+use Rattle.polar_code.specs.Code.{kindOf, messageCount, messagePlaces}
 use Rattle.polar.specs.Tree.{treeOf, leaves, map1, map2, map3, map4, treeSum}
 use Rattle.polar.specs.Halves.{join, coefsAt}
 use Rattle.scms.specs.Mode.{Mode, capOf, modeOf, allCandidates, Full}
@@ -109,8 +108,10 @@ module _ {coef : ℕ} {mode : Mode} {frame ss first second ts : List ℕ} {clips
 -- the rows on coefficient 1, with what they need computed
 decoder-by : (mode : Mode) → Full mode → Gives 1 (mode .cap) oneFrame (0 ∷ 4 ∷ []) (zeroAt 1 1) atFourAndFive (0 ∷ 1 ∷ []) 0 → Hold (decoderRows mode)
 unfolding tabulate
-decoder-by mode full g = record { same = λ i.
-    symbols-so full g i ∷ (getD (first-so full g i) (getD (symbols-so full g i) 0 0) 0 ∷ []) ∷ second-so full g i ∷ totals-so full g i ∷ [] }
+decoder-by mode full g = record {
+  same = λ i.
+      symbols-so full g i ∷ (getD (first-so full g i) (getD (symbols-so full g i) 0 0) 0 ∷ []) ∷ second-so full g i ∷ totals-so full g i ∷ [];
+}
 
 -- at Qm = 1
 pub decoder-low : Hold (decoderRows (modeOf 1 allCandidates))
@@ -129,11 +130,13 @@ low = modeOf 2 allCandidates
 
 -- the rows of the sheet
 pub sheet-hold : Hold sheetRows
-sheet-hold = record { same = λ i.
-    symbols-so {mode = high} refl sheet-high i ∷ report-so {mode = high} refl sheet-high i ∷ totals-so {mode = high} refl sheet-high i
-    ∷ (count-so {mode = high} refl sheet-high i ∷ [])
-    ∷ symbols-so {mode = low} refl sheet-low i ∷ report-so {mode = low} refl sheet-low i ∷ totals-so {mode = low} refl sheet-low i
-    ∷ (count-so {mode = low} refl sheet-low i ∷ []) ∷ [] }
+sheet-hold = record {
+  same = λ i.
+      symbols-so {mode = high} refl sheet-high i ∷ report-so {mode = high} refl sheet-high i ∷ totals-so {mode = high} refl sheet-high i
+      ∷ (count-so {mode = high} refl sheet-high i ∷ [])
+      ∷ symbols-so {mode = low} refl sheet-low i ∷ report-so {mode = low} refl sheet-low i ∷ totals-so {mode = low} refl sheet-low i
+      ∷ (count-so {mode = low} refl sheet-low i ∷ []) ∷ [];
+}
 
 -- the left sides of the rows on the program's output, from what is held and counted
 abbrev listed : (first second : List ℕ) (clips : ℕ) → List (List ℕ)
@@ -148,9 +151,11 @@ listing-computed = refl
 
 -- the rows on the program's output
 pub listing-hold : Hold listingRows
-listing-hold = record { same =
-    (λ i. listed (first-so {mode = high} refl sheet-high i) (second-so {mode = high} refl sheet-high i) (count-so {mode = high} refl sheet-high i))
-    ∙ listing-computed }
+listing-hold = record {
+  same =
+      (λ i. listed (first-so {mode = high} refl sheet-high i) (second-so {mode = high} refl sheet-high i) (count-so {mode = high} refl sheet-high i))
+      ∙ listing-computed;
+}
 
 -- ---- N = 4: the totals
 pub totals-of-four : totals fourCode (modeOf 13 allCandidates) fourFrame ≡ 0 ∷ 1 ∷ 3 ∷ 6 ∷ []

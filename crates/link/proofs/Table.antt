@@ -1,7 +1,7 @@
 -- The table of worked rows holds, by computing every row from the definitions; the two claims on the premise come from the corollary.
 use mathlib.Core.Path.{_≡_, refl, sym, ap₂, _∙_}
 use mathlib.Core.Bool.{false}
-use mathlib.Core.List.{List, [], _∷_, _++_, map-append}
+use mathlib.Core.List.{List, _++_, map-append}
 use Prim.Native.Nat.{ℕ}
 use native.Mathlib.Omega.{arith}
 use borrow.Author.Tests.{le-ltb}
@@ -21,22 +21,12 @@ use Rattle.ccsk.specs.Spread.{numbersOf, spreadRefusal}
 use Rattle.demapper.specs.Samples.{hardChip, isLost, magnitude, added, raw, rawLlrs, quantised, quantisedLlrs, llrs}
 use Rattle.demapper.specs.Demap.{frameOf, demapRefusal}
 use Rattle.demapper.specs.Noiseless.{sentSample, sentSymbol, numberSamples}
-use Rattle.scms.specs.Tried.{countBelow, countEqual, countBefore, triedTo, tried, leastOver}
-use Rattle.scms.specs.Nodes.{ordered, checkTried, checkNodeBy, sumsFrom, sums, lessFrom, subtractLeast, clipped, exceeding, lowered, variableNode, clippedEntries}
-use Rattle.scms.specs.Decision.{smallestTo, smallest, decision}
-use Rattle.scms.specs.Mode.{capOf, modeOf, allCandidates}
-use Rattle.scms.specs.Halves.{checkNodes, variableNodes, clippedNodes, takenNodes, decodeTree, frameTree, decodeHalves}
-use Rattle.scms.proofs.ByHalves.{same-answer}
-use Rattle.polar.specs.Tree.{treeOf, leaves, map1, map2, map3, map4, treeSum}
-use Rattle.polar.specs.Halves.{join, coefsAt}
-use Rattle.scms.specs.Decoder.{nodes, thetaSymbol, vectors, thetaVector, phiVector, loweredAt, clippedAt, clipCount, takenIn, takenOff, heldAt, decidedTo, held, symbols, report, totals, count}
 use Rattle.columns.specs.Columns.{digit, column, before, field, fields, line, lines}
 use Rattle.columns.specs.Reading.{spelledFrom, spelled, same, part, numbers, isLine}
-use Rattle.sheet.specs.CodeSheet.{badLine, numberOn, numbersOn, sheetMap, sheetCoefs, sheetRefusal}
+use Rattle.sheet.specs.CodeSheet.{badLine, numberOn, numbersOn, sheetRefusal}
 use Rattle.decoder_refusal.specs.Refusals.{noZero}
 use Rattle.writer.specs.CodeSheet.{sheetOf, sheetWriteRefusal, sheetBuffer}
 use Rattle.writer.specs.FrameLine.{lineWriteRefusal, lineBuffer}
-use Rattle.listing.specs.Listing.{heldFor, otherValue, leastOther, placeLine, numberLine}
 use Rattle.link.specs.Noiseless.{messageSamples, messageFrame, ChainInput, NoiselessPremise}
 use Rattle.link.specs.Rows.{Row, productRows, transformRows, baseRows, gainRows, lostRows, linkRows, lineRows, writtenRows, rows, firstLine, sentBy, receivedBy, Worked}
 use Rattle.link.proofs.DecoderRows.{Hold, decoder-low, decoder-high, sheet-hold, listing-hold, totals-of-four}
@@ -76,9 +66,11 @@ zero-eight rest frozen cs = row-passed 12 _ (five (firstLine 48 56) rest refl) �
 
 -- two lists of rows, one after the other
 join-hold : {xs ys : List Row} → Hold xs → Hold ys → Hold (xs ++ ys)
-join-hold {xs} {ys} p q = record { same =
-    map-append (λ (r : Row). r .given) xs ys ∙ ap₂ (λ (a b : List (List ℕ)). a ++ b) (p .same) (q .same)
-    ∙ sym (map-append (λ (r : Row). r .expected) xs ys) }
+join-hold {xs} {ys} p q = record {
+  same =
+      map-append (λ (r : Row). r .given) xs ys ∙ ap₂ (λ (a b : List (List ℕ)). a ++ b) (p .same) (q .same)
+      ∙ sym (map-append (λ (r : Row). r .expected) xs ys);
+}
 
 -- the rows on products, the transform, bases, gains and lost samples
 first-hold : Hold productRows × Hold transformRows × Hold baseRows × Hold gainRows × Hold lostRows

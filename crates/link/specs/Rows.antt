@@ -204,14 +204,18 @@ listingRows =
       given = placeLine 1 33 (llrs 1);
       expected = blanks ++ (49 ∷ 32 ∷ 32 ∷ 32 ∷ 51 ∷ 51 ∷ blanks ++ (48 ∷ blanks ++ (54 ∷ 10 ∷ [])));
     }
-    ∷ record { given = numberLine (count (workedCode 2) (modeOf 13 allCandidates) frame); expected = blanks ++ (48 ∷ 10 ∷ []) }
+    ∷ record {
+      given = numberLine (count (workedCode 2) (modeOf 13 allCandidates) frame);
+      expected = blanks ++ (48 ∷ 10 ∷ []);
+    }
     ∷ []
 
 -- all rows
 abbrev pub rows : List Row
 rows =
     productRows ++ (transformRows ++ (baseRows ++ (gainRows ++ (lostRows ++ (decoderRows (modeOf 1 allCandidates)
-    ++ (decoderRows (modeOf 13 allCandidates) ++ (sheetRows ++ (linkRows ++ (lineRows ++ (writtenRows ++ listingRows))))))))))
+    ++ (decoderRows (modeOf 13 allCandidates)
+    ++ (sheetRows ++ (linkRows ++ (lineRows ++ (writtenRows ++ listingRows))))))))))
 
 -- a code and a message sent with base 1 and amplitude 10
 abbrev pub sentBy : Code → (message : List ℕ) → Transmission

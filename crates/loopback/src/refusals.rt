@@ -108,6 +108,15 @@ pub(crate) fn trip_refusal(
         return refused;
     }
     content_refusal(
-        map, coefs, message, base, amplitude, top, bottom, qc, qm, candidates,
+        map,
+        coefs,
+        message,
+        base,
+        amplitude,
+        top,
+        bottom,
+        qc,
+        qm,
+        candidates,
     )
 }

@@ -44,7 +44,19 @@ fn list_decoded(
     ensures { λ _. ⌜ now (output .exit)
         ≡ programListing (codeOf n (now (map .entry)) (now (coefs .entry))) (now (frame .entry)) ⌝ }
 {
-    let answer = decoder::decode(n, map, coefs, 5, 13, 64, frame, work, symbols, report, totals);
+    let answer = decoder::decode(
+        n,
+        map,
+        coefs,
+        5,
+        13,
+        64,
+        frame,
+        work,
+        symbols,
+        report,
+        totals,
+    );
     write_listing(symbols, report, count_of(answer), output);
 }
 

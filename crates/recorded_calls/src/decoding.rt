@@ -38,7 +38,17 @@ pub(crate) fn run_decode(
         return false;
     }
     print_count(decoder::decode(
-        n, map, coefs, qc, qm, candidates, frame, work, symbols, report, totals,
+        n,
+        map,
+        coefs,
+        qc,
+        qm,
+        candidates,
+        frame,
+        work,
+        symbols,
+        report,
+        totals,
     ));
     print_words(work);
     print_bytes(symbols);

@@ -11,14 +11,14 @@ use lib.Arith.{le-zero}
 use lib.Dec.{ltb}
 use lib.ListN.{length, getD}
 use Rattle.vector.specs.Vector.{leastTo, lessLeast, HasZero, AtMost, OnlyZero}
-use Rattle.vector.proofs.Laws.{length-tabulate, getD-tabulate, tabulate-ext, tabulate-by, sum-none, term-le, least-to-le, least-to-at, least-le, less-least-at, less-least-zero}
+use Rattle.vector.proofs.Laws.{length-tabulate, getD-tabulate, tabulate-ext, sum-none, term-le, least-to-le, least-to-at, least-le, less-least-at, less-least-zero}
 use Rattle.gf64.specs.Field.{_⊕_, _⊙_, inverse, NonZero}
 use Rattle.gf64.proofs.SumLaws.{sum-lt, sum-back}
 use Rattle.gf64.proofs.ProductLaws.{product-lt, product-injective, undoes-inverse}
 use Rattle.scms.specs.Tried.{tried, leastOver}
 use Rattle.scms.specs.Decision.{smallest}
 use Rattle.scms.specs.Nodes.{ordered, sumAt, checkFrom, checkNode, checkTried, checkNodeBy, sumsFrom, sums, lessFrom, subtractLeast, clipped, exceeding, lowered, variableNode, clippedEntries}
-use Rattle.scms.specs.Claims.{ZeroAndCapped, NodeRules}
+use Rattle.scms.specs.Claims.{NodeRules}
 use Rattle.scms.proofs.DecisionLaws.{smallest-lt, smallest-zero}
 use Rattle.scms.proofs.TriedLaws.{Tried, over-le, over-at, over-is, tried-more, smallest-tried, all-tried}
 

@@ -1,6 +1,6 @@
 -- What is said of the decoder: of one node, of all its vectors, of its answer place by place, and of the whole word.
--- Each is proved from the definitions, for every n, every cap, every m from 1 on, every code with coefficients from 1 to
--- 63 and every frame whose vectors each hold a 0, and with what else its comment asks for.
+-- Each is proved from the definitions, for every n, every cap, every m from 1 on, every code with coefficients from 1
+-- to 63 and every frame whose vectors each hold a 0, and with what else its comment asks for.
 use Prim.Native.Nat.{ℕ, _+_, _*_, _-_, _/_, _%_, _^_, _≤_, _<_}
 use mathlib.Core.Path.{_≡_}
 use mathlib.Core.List.{List, [], _∷_, _++_}
@@ -24,9 +24,9 @@ pub record ZeroAndCapped (cap : ℕ) (v : List ℕ) : Type 0 where
   pub at-most : AtMost cap v
 
 -- One kernel's nodes on given inputs, θ's vector and φ's. A check node's entry is never raised by a larger m, and with
--- m = 64 it is that of the full rule; where both inputs hold a 0 and stay within the cap, so do the check node's vector,
--- for every m, and the variable node's. Over a whole frame a larger m can raise what is held, since variable nodes
--- subtract
+-- m = 64 it is that of the full rule; where both inputs hold a 0 and stay within the cap, so do the check node's
+-- vector, for every m, and the variable node's. Over a whole frame a larger m can raise what is held, since variable
+-- nodes subtract
 pub record NodeRules (h : ℕ) (theta phi : List ℕ) : Type 0 where
   pub larger-m : (m n b : ℕ) → 1 ≤ m → m ≤ n → b < 64
       → getD (checkNodeBy n h theta phi) b 0 ≤ getD (checkNodeBy m h theta phi) b 0
@@ -84,7 +84,8 @@ NeverClipped code candidates frame =
 -- doubles; so a kernel of layer l takes off at most most × 2^(l−1), and the 2^(n−l) kernels of a block most × 2^(n−1)
 abbrev pub TotalsFit : (most : ℕ) → Code → Mode → (frame : List ℕ) → Type 0
 TotalsFit most code mode frame =
-    TriesOne mode → Coefficients (code .coefs) → EachZero (code .n) frame → EachAtMost (code .n) most frame → (i : ℕ) → i < 2 ^ code .n
+    TriesOne mode → Coefficients (code .coefs) → EachZero (code .n) frame → EachAtMost (code .n) most frame → (i : ℕ)
+    → i < 2 ^ code .n
     → getD (totals code mode frame) i 0 ≤ code .n * (most * (2 ^ code .n / 2))
 
 -- the number of place 0 is 0, clipped or not: its line has check nodes only

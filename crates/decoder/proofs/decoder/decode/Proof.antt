@@ -76,7 +76,7 @@ decode-block-requires c κs =
     let l = c .before .before .before .before .before .before in
     let e = to-fits (to-table l) in (
       whole-given (code (entry e)) (settings (entry e)) _ (lent (entry e)) (fits e) (word-long e ∙ fits e .is-code .map-long) (cap-is l)
-      (le-trans (le-of-eq (l .largest .ensures)) (largest-most (entry e .args .qm))),
+          (le-trans (le-of-eq (l .largest .ensures)) (largest-most (entry e .args .qm))),
       to-table l .products .ensures,
     )
 

@@ -1,6 +1,5 @@
 -- `settings_refusal` meets its contract: three rows.
 use mathlib.Core.List.{[], _∷_}
-use borrow.Author.Needs.{needs}
 use Rattle.refusal.proofs.WalkLaws.{walked, rows, tried}
 use Rattle.decoder_refusal.proofs.refusals.settings_refusal.Statement.{statement}
 use Rattle.decoder_refusal.proofs.refusals.settings_refusal.Tie as tie
