@@ -2,4 +2,3 @@ pub mod MaskLaws
 pub mod CutLaws
 pub mod SetLaws
 pub mod SumLaws
-pub mod FullLaws

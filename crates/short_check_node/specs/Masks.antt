@@ -72,12 +72,6 @@ pub record TriedSet (m : ℕ) (v : List ℕ) (t mask : ℕ) : Type 0 where
   pub small : (c : ℕ) → c < 64 → set c ≡ 1 → getD v c 0 ≤ t
   pub values : (c : ℕ) → c < 64 → (set c ≡ 1 → countBefore v c < m) × (countBefore v c < m → set c ≡ 1)
 
--- what `others_replaced` leaves of the penalties: those of the set that the number is, and 8,191 for all others
-pub record OthersReplaced (v : List ℕ) (mask : ℕ) (r : List ℕ) : Type 0 where
-  pub long : length r ≡ 64
-  pub kept : (f : ℕ → ℕ) → Flags f → mask ≡ maskOf 64 f → (c : ℕ) → c < 64 → f c ≡ 1 → getD r c 0 ≡ getD v c 0
-  pub others : (f : ℕ → ℕ) → Flags f → mask ≡ maskOf 64 f → (c : ℕ) → c < 64 → f c ≡ 0 → getD r c 0 ≡ 8191
-
 -- where the copies have what value b is summed with at value c
 unfoldable pub sourceAt : (c b : ℕ) → ℕ
 sourceAt c b = 64 * (c % 8) + 8 * ((b / 8) ⊕ (c / 8)) + b % 8

@@ -3,10 +3,9 @@ use crate::counts::count_below;
 use crate::counts::one_if_below;
 ghost use mathlib.Core.Path.{_≡_};
 ghost use Prim.Native.Nat.{_+_, _*_, _≤_, _<_};
-ghost use lib.ListN.{length, getD};
+ghost use lib.ListN.{getD};
 ghost use Rattle.vector.specs.Vector.{tabulate, AtMost};
 ghost use Rattle.short_check_node.specs.Masks.{belowAt, Threshold, maskOf, HasSet, AfterLowest, TriedSet};
-ghost use Rattle.short_check_node.specs.Masks.{OthersReplaced};
 
 // For each value 1 where its penalty is below t, and else 0.
 fn flags_below(v: &[u16; 64], t: u16) -> [u16; 64]
@@ -85,19 +84,4 @@ pub(crate) fn tried_set(ordered: &[u16; 64], t: u16, m: u16) -> u64
     let upto = mask_below(ordered, t + 1);
     let left = after_lowest(upto - below, m - few);
     upto ^ left
-}
-
-// The penalties with those of all values outside a set replaced by 8,191.
-pub(crate) fn others_replaced(ordered: &[u16; 64], mask: u64) -> [u16; 64]
-    requires { ⌜ length (now ordered) ≡ 64 ⌝ }
-    ensures { λ r. ⌜ OthersReplaced (now (ordered .entry)) mask r ⌝ }
-{
-    let mut r = *ordered;
-    let mut rest = 18446744073709551615 - mask;
-    while rest != 0 {
-        let c = (u64::trailing_zeros(rest) as usize) % 64;
-        r[c] = 8191;
-        rest = rest & (rest - 1);
-    }
-    r
 }

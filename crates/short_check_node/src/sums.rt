@@ -1,9 +1,6 @@
 // The least sums over a set of values.
-use crate::counts::largest_of;
 use crate::counts::threshold;
-use crate::masks::others_replaced;
 use crate::masks::tried_set;
-use check_node::check_node;
 use check_node::copies;
 ghost use mathlib.Core.Path.{_≡_};
 ghost use Prim.Native.Nat.{_+_, _*_, _≤_, _<_};
@@ -74,25 +71,13 @@ fn set_sums(copies: &[u16; 512], ordered: &[u16; 64], mask: u64) -> [u16; 64]
     r
 }
 
-// Above this number of values it is quicker to sum all 64.
-const MANY: u16 = 40;
-
-// For each value b the least of its sums at the m values whose penalties are smallest, ties to the smaller value. Where
-// many are tried, the full check node gives it: with 8,191 for the penalty of each other value, whose sums are then no
-// less than those of a value that is tried, as long as no penalty of theta and the threshold add up to more.
+// For each value b the least of its sums at the m values whose penalties are smallest, ties to the smaller value.
 pub(crate) fn tried_sums(theta: &[u16; 64], ordered: &[u16; 64], m: u16) -> [u16; 64]
     requires { ⌜ Small (now theta) × Small (now ordered) × (1 ≤ m) × (m ≤ 64) ⌝ }
     ensures { λ r. ⌜ r ≡ checkTried m (now (theta .entry)) (now (ordered .entry)) ⌝ }
 {
     let t = threshold(ordered, m);
     let set = tried_set(ordered, t, m);
-    if MANY < m {
-        let most = largest_of(theta);
-        if most + t < 8192 {
-            let w = others_replaced(ordered, set);
-            return check_node(theta, &w);
-        }
-    }
     let own = *theta;
     let copied = copies(own);
     set_sums(&copied, ordered, set)
