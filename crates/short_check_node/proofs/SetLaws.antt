@@ -256,23 +256,14 @@ module _ (m : ℕ) (v : List ℕ) (t e : ℕ) (th : Threshold m v t) (cut : sumT
           let part = sum-part e c (sameAt v t) (omega arith) in
           (λ z. absurd (omega arith), λ z. absurd (omega arith))
 
-  -- and none of them is above t
-  pub tried-small : (c : ℕ) → triedAt v t e c ≡ 1 → getD v c 0 ≤ t
-  tried-small c s = go (decLt t (getD v c 0))
-    where
-      go : Dec (t < getD v c 0) → getD v c 0 ≤ t
-      go (yes l) = let b = below-none (getD v c 0) (t + 1) (omega arith) in absurd (omega arith)
-      go (no l) = omega arith
-
 -- so the number is their set
 pub tried-set : (m : ℕ) (v : List ℕ) (t few upto left : ℕ) → Threshold m v t → few ≡ countBelow v t → upto ≡ maskOf 64 (belowAt v (t + 1))
-    → Cut (sameAt v t) (m - few) left → TriedSet m v t (bitXor upto left)
+    → Cut (sameAt v t) (m - few) left → TriedSet m v (bitXor upto left)
 tried-set m v t few upto left th f u k =
     let before : sumTo (k .at) (sameAt v t) ≡ m - countBelow v t = (let b = k .before in omega arith) in
     record {
       set = triedAt v t (k .at);
       flags = tried-flags v t (k .at);
       is-mask = tried-mask v t (k .at) upto left u (k .is-left);
-      small = λ c l s. tried-small m v t (k .at) th before c s;
       values = tried-iff m v t (k .at) th before;
     }

@@ -199,10 +199,10 @@ module _ {theta copies ordered : List ℕ} (h : AreCopies 8 theta copies) (st : 
           subst (λ (j : ℕ). getD next b 0 ≤ sumAt theta ordered b j) z (k .second)
 
 -- ---- the least sums over the values tried are the entries of the check node
-pub tried-node : (m : ℕ) (theta ordered : List ℕ) (t mask : ℕ) (r : List ℕ) → 1 ≤ m → Small theta → Small ordered
-    → (k : TriedSet m ordered t mask) → LeastSums (k .set) (sumAt theta ordered) r → r ≡ checkTried m theta ordered
+pub tried-node : (m : ℕ) (theta ordered : List ℕ) (mask : ℕ) (r : List ℕ) → 1 ≤ m → Small theta → Small ordered
+    → (k : TriedSet m ordered mask) → LeastSums (k .set) (sumAt theta ordered) r → r ≡ checkTried m theta ordered
 unfolding checkTried
-tried-node m theta ordered t mask r lm st sx k s = tabulate-by 0 64 _ r (s .long) (λ b lb. entry b lb (s .attained b lb))
+tried-node m theta ordered mask r lm st sx k s = tabulate-by 0 64 _ r (s .long) (λ b lb. entry b lb (s .attained b lb))
   where
     bound : (b c : ℕ) → b < 64 → Tried m ordered c → getD r b 0 ≤ sumAt theta ordered b c
     bound b c lb t = s .bounded b c lb (t .0) (k .values c (t .0) .1 (t .1))

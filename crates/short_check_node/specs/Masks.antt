@@ -65,11 +65,10 @@ pub record AfterLowest (mask n left : ℕ) : Type 0 where
   pub cut : (f : ℕ → ℕ) → Flags f → mask ≡ maskOf 64 f → n ≤ sumTo 64 f → Cut f n left
 
 -- a number is the set of the m values tried, whose penalties are not above t
-pub record TriedSet (m : ℕ) (v : List ℕ) (t mask : ℕ) : Type 0 where
+pub record TriedSet (m : ℕ) (v : List ℕ) (mask : ℕ) : Type 0 where
   pub set : ℕ → ℕ
   pub flags : Flags set
   pub is-mask : mask ≡ maskOf 64 set
-  pub small : (c : ℕ) → c < 64 → set c ≡ 1 → getD v c 0 ≤ t
   pub values : (c : ℕ) → c < 64 → (set c ≡ 1 → countBefore v c < m) × (countBefore v c < m → set c ≡ 1)
 
 -- where the copies have what value b is summed with at value c

@@ -27,7 +27,7 @@ pub(crate) fn count_below(v: &[u16; 64], t: u16) -> u16
 }
 
 // A penalty that none of the 64 is above.
-pub(crate) fn largest_of(v: &[u16; 64]) -> u16
+fn largest_of(v: &[u16; 64]) -> u16
     requires { ⌜ Small (now v) ⌝ }
     ensures { λ r. ⌜ AtMost r (now (v .entry)) × (r ≤ 8191) ⌝ }
 {

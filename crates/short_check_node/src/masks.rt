@@ -77,7 +77,7 @@ fn after_lowest(mask: u64, n: u16) -> u64
 // it the smallest.
 pub(crate) fn tried_set(ordered: &[u16; 64], t: u16, m: u16) -> u64
     requires { ⌜ Threshold m (now ordered) t ⌝ }
-    ensures { λ r. ⌜ TriedSet m (now (ordered .entry)) t r ⌝ }
+    ensures { λ r. ⌜ TriedSet m (now (ordered .entry)) r ⌝ }
 {
     let few = count_below(ordered, t);
     let below = mask_below(ordered, t);

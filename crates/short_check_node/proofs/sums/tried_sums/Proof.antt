@@ -13,7 +13,7 @@ returns c =
     let p = start .pre in
     let theta = a .theta .now in
     let k = chosen .tried-set .ensures in
-    tried-node (a .m) theta (a .ordered .now) (chosen .before .threshold .result) _ _ (p .2) (p .0) (p .1) k
+    tried-node (a .m) theta (a .ordered .now) _ _ (p .2) (p .0) (p .1) k
     (c .set-sums .ensures .least (k .set) theta (k .flags) (k .is-mask) (copied .copies .ensures (p .0 .long)) (p .0) (p .1))
 
 pub tried-sums-spec : {M : Type 1} → statement M
