@@ -71,12 +71,12 @@ fn send(
 // the gain top over bottom at the precision qc, decodes at the internal precision qm with check nodes that try as many
 // values as `candidates` says, and reads the message from the symbols decided. A probe and a receiver can run it to
 // test themselves: the caller compares the decoded message with the message. Answers what `decode` answers for that
-// frame, with the samples, the frame, the decoder's symbols, report and totals and the decoded message in the buffers lent for
-// them, and the work buffer all zeros; or the first refusal of 1, 2, 3, 13, 4, 5, 6, 7, 10, 11 and 19 (the amplitude)
-// that fits, in this order, and every buffer as it came. The decoded message is the message, for every number of
-// candidates, where each wrong symbol's penalty is still at least 1 after rounding. That is where, for every shift from
-// 1 to 63, top x A x the number of chips in which it differs from shift 0 is at least bottom; for every base that is
-// not refused 2 x A x top >= bottom is enough.
+// frame, with the samples, the frame, the decoder's symbols, report and totals and the decoded message in the buffers
+// lent for them, and the work buffer all zeros; or the first refusal of 1, 2, 3, 13, 4, 5, 6, 7, 10, 11 and 19 (the
+// amplitude) that fits, in this order, and every buffer as it came. The decoded message is the message, for every
+// number of candidates, where each wrong symbol's penalty is still at least 1 after rounding. That is where, for every
+// shift from 1 to 63, top x A x the number of chips in which it differs from shift 0 is at least bottom; for every base
+// that is not refused 2 x A x top >= bottom is enough.
 pub fn round_trip(
     n: usize,
     map: &[u8],
