@@ -3,6 +3,7 @@
 // elements. What no proof can see to is the caller's: each pointer must be valid for its number of elements, that of a
 // number for one, and what is lent to be written must not overlap anything else that is lent. Those on a base stand in
 // base.rt.
+#![tactic(auto)]
 mod base;
 
 ghost use Rattle.polar_code.specs.Code.{code_of};

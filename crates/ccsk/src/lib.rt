@@ -1,4 +1,5 @@
 // CCSK chips: spreading of symbols to chips.
+#![tactic(auto)]
 mod chips;
 mod spreader;
 

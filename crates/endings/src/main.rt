@@ -1,6 +1,7 @@
 // The program once for each way that it can end: on each pair of files of the data folder. Standard input has three
 // lines for each pair: its name, and the names of its code sheet and its frame file. For each pair a line with its name
 // is printed, and then what the program prints. All files are made by tools/outside/make.py.
+#![tactic(auto)]
 mod input;
 
 use crate::input::read_line;

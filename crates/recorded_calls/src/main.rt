@@ -3,6 +3,7 @@
 // that was lent to be written. The file stdout has the lines that the outside program gives; both are made by
 // tools/outside/make.py. tools/outside/records.md has the form of a record. One that breaks it ends the run with a line
 // that says so.
+#![tactic(auto)]
 mod channel;
 mod decoding;
 mod field;

@@ -1,5 +1,7 @@
 // Vectors of 64 numbers, one for each value of a symbol: the least entry, each entry less the least, the vectors of a
 // slice, the part of one place, and the largest penalty of a precision.
+#![tactic(auto)]
+
 mod part;
 
 ghost use Rattle.std.specs.Prelude.{◌≡◌};
