@@ -4,7 +4,7 @@ use Rattle.refusal.proofs.is_outside.Statement.{statement}
 use Rattle.refusal.proofs.is_outside.Tie as tie
 
 returns : tie.Need-returns
-returns c = c.is-size-outside.ensures
+returns c = c.is_size_outside.ensures
 
-pub is-outside-spec : {M : Type 1} → statement M
-is-outside-spec = tie.close (tie.spec (λ c κs. search rules) returns)
+pub is_outside_spec : {M : Type 1} → statement M
+is_outside_spec = tie.close (tie.spec (λ c κs. search rules) returns)

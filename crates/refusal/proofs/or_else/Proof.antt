@@ -5,13 +5,13 @@ use Rattle.refusal.proofs.Laws.{when_accepted, when_refused}
 use Rattle.refusal.proofs.or_else.Statement.{statement}
 use Rattle.refusal.proofs.or_else.Tie as tie
 
-returns : tie.Need-returns
+returns : tie.Need-returns-then-before-eq0
 unfolding or_else
-returns c = sym (when_accepted _ _ _ c.if1.true)
+returns c = sym (when_accepted _ _ _ c.if-before-eq0.true)
 
-returns-2 : tie.Need-returns-2
+returns-2 : tie.Need-returns-else-before-eq0
 unfolding or_else
-returns-2 c = sym (when_refused _ _ _ c.if1.false)
+returns-2 c = sym (when_refused _ _ _ c.if-before-eq0.false)
 
-pub or-else-spec : {M : Type 1} → statement M
-or-else-spec = tie.close (tie.spec returns returns-2)
+pub or_else_spec : {M : Type 1} → statement M
+or_else_spec = tie.close (tie.spec returns returns-2)

@@ -8,29 +8,29 @@ use Rattle.vector.proofs.SliceLaws.{StoredTo, store_none, store_more, store_all,
 use Rattle.vector.proofs.store.Statement.{statement}
 use Rattle.vector.proofs.store.Tie as tie
 
-abbrev invariant-loop : tie.invariant-loop
+abbrev invariant-loop : tie.invariant-loop-c
 invariant-loop v i s₀ at c₀ s c = StoredTo s₀ i (λ b. get_or v b 0) s c
 
-abbrev decreases-loop : tie.decreases-loop
+abbrev decreases-loop : tie.decreases-loop-c
 decreases-loop v i s₀ at c₀ s c = 64 - c
 
-returns : tie.Need-returns invariant-loop decreases-loop
-returns c = sym (stored_none c.before.args.s.now c.before.args.i c.before.args.v.now c.if1.true)
+returns : tie.Need-returns-then-s-i invariant-loop decreases-loop
+returns c = sym (stored_none c.args.s.now c.args.i c.args.v.now c.if-s-i.true)
 
-loop-holds : tie.Need-loop-init invariant-loop decreases-loop
-loop-holds c = store_none c.before.args.s.now c.before.args.i (λ b. get_or c.before.args.v.now b 0)
+loop-holds : tie.Need-loop-c-init invariant-loop decreases-loop
+loop-holds c = store_none c.args.s.now c.args.i (λ b. get_or c.args.v.now b 0)
 
-loop-again : tie.Need-loop-preserved invariant-loop decreases-loop
-loop-again c = store_more (omega arith) c.before.before.loop.invariant c.before.loop-test.true
+loop-again : tie.Need-loop-c-preserved invariant-loop decreases-loop
+loop-again c = store_more (omega arith) c.loop-c.invariant c.loop-c-test.true
 
-same_length : tie.Need-same-length invariant-loop decreases-loop
-same_length c = c.before.loop.invariant.long
+same_length : tie.Need-shape_of-s invariant-loop decreases-loop
+same_length c = c.loop-c.invariant.long
 
-returns-2 : tie.Need-returns-2 invariant-loop decreases-loop
+returns-2 : tie.Need-returns invariant-loop decreases-loop
 returns-2 c =
-    let a = c.before.before.before.args in
+    let a = c.args in
     let l : 64 * (a.i + 1) ≤ length a.s.now = omega arith in
-    store_all l c.before.loop.invariant c.loop-test.false ∙ sym (stored_there a.s.now a.i l a.v.now)
+    store_all l c.loop-c.invariant c.loop-c-test.false ∙ sym (stored_there a.s.now a.i l a.v.now)
 
 pub store_spec : {M : Type 1} → statement M
 store_spec =

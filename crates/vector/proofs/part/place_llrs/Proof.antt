@@ -5,17 +5,17 @@ use borrow.Author.Rules.{rules}
 use Rattle.vector.proofs.part.place_llrs.Statement.{statement}
 use Rattle.vector.proofs.part.place_llrs.Tie as tie
 
-returns : tie.Need-returns
-returns c = empty_handed _ _ _ (ragged _ _ c.before.if1.true)
+returns : tie.Need-returns-then-llrs-ne0
+returns c = empty_handed _ _ _ (ragged _ _ c.if-llrs-ne0.true)
 
-returns-2 : tie.Need-returns-2
-returns-2 c = empty_handed _ _ _ (beyond _ _ c.before.if2.true)
+returns-2 : tie.Need-returns-then-llrs-place
+returns-2 c = empty_handed _ _ _ (beyond _ _ c.if-llrs-place.true)
 
-returns-3 : tie.Need-returns-3
-returns-3 c = part_handed _ _ _ (there _ _ c.before.before.before.if1.false c.before.before.if2.false) _ c.before.start_of_lem.ensures
+returns-3 : tie.Need-returns
+returns-3 c = part_handed _ _ _ (there _ _ c.if-llrs-ne0.false c.if-llrs-place.false) _ c.start_of-start.ensures
 
-pub place-llrs-spec : {M : Type 1} → statement M
-place-llrs-spec =
+pub place_llrs_spec : {M : Type 1} → statement M
+place_llrs_spec =
     tie.close
     (tie.spec (λ c. search rules) (λ c. search rules) (λ c. search rules)
     returns
