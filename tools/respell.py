@@ -59,6 +59,8 @@ DECLARED = re.compile(
 CAMEL = re.compile(r"[a-z][\w']*[A-Z][\w']*$")
 DASHED = re.compile(r"[a-z][\w']*(-[\w']+)+$")
 COMMENT = re.compile(r"(?<!\S)--(?!\S)[^\n]*|(?<!\S)--[^\n]*")
+# A library's names, in a file that takes them.
+TAKEN = re.compile(r"(?m)^use (?!Rattle\.(?!std\.))[\w.]+\.\{([^}]*)\}")
 SPAN = re.compile(r"`[^`\n]+`")
 CLAUSE = re.compile(r"(?:requires|ensures)\s*(?:\w+\s*)?\{|ghost use [^;]*;")
 
@@ -123,7 +125,7 @@ def main():
     if bad and "--force" not in sys.argv:
         return 1
 
-    def work(text, steps=False):
+    def work(text, steps=False):  # by `names` as it then is
         """Behind a dot in a function's own proof a name is often that of a step, which no lemma's name changes."""
 
         def one(m):
@@ -160,10 +162,13 @@ def main():
         for path in files(ending):
             with open(path, encoding="utf-8") as f:
                 old = f.read()
+            taken = {} if ending != ".antt" else {n: n for m in TAKEN.finditer(old) for n in re.split(r",\s*", m[1])}
+            names, whole = {**names, **taken}, names
             if path.endswith("/Proof.antt"):
                 new = by_code(old, lambda t: work(t, True))
             else:
                 new = turn(old)
+            names = whole
             if new != old:
                 changed += 1
                 with open(path, "w", encoding="utf-8") as f:

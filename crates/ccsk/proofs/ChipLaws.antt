@@ -1,7 +1,7 @@
 -- The laws of chips: a number is the sum of its chips, and the base turned has the base's chips, turned.
 use mathlib.Core.Path.{◌≡◌, sym, ap, ap₂, ◌∙◌, subst}
 use Prim.Native.Nat.{ℕ, zero, suc, ◌+◌, ◌*◌, ◌/◌, ◌%◌, ◌-◌, ◌^◌, ◌<◌}
-use native.Mathlib.Nat.{le_of_suc-le-suc, not-suc-le-zero, pow-succ', div-div-eq-div-mul, mod_lt, mod-eq_of_lt, mul_left_comm, mul_comm, add_comm, add-mod-mod, div-lt_iff_lt-mul, mul-div_cancel, mul-mod_left, add-zero, div-one, mul-le-mul_right, two-pow-succ, one-mul}
+use native.Mathlib.Nat.{le_of_suc-le-suc, not-suc-le-zero, pow-succ', div-div-eq-div-mul, mod-lt, mod-eq_of_lt, mul_left_comm, mul_comm, add_comm, add-mod-mod, div-lt_iff_lt-mul, mul-div_cancel, mul-mod_left, add-zero, div-one, mul-le-mul_right, two-pow-succ, one-mul}
 use native.Mathlib.Numerals.{add-one}
 use native.Mathlib.Omega.{arith}
 use lib.Bits.{bit_or, or_self, or_shifted_r}
@@ -125,7 +125,7 @@ shift_up x d u =
 
 -- the two shifts of a 64-bit number, joined, are the number turned
 pub shifted : (base s : ℕ) → base < 2 ^ 64 → bit_or (base / 2 ^ (s % 64)) (base * 2 ^ ((64 - s % 64) % 64) % 2 ^ 64) ≡ turned base s
-shifted base s fits = go (s % 64) (mod_lt s (lit< tt)) ∙ turned_mod base s
+shifted base s fits = go (s % 64) (mod-lt s (lit< tt)) ∙ turned_mod base s
   where
     go : (d : ℕ) → d < 64 → bit_or (base / 2 ^ d) (base * 2 ^ ((64 - d) % 64) % 2 ^ 64) ≡ turned base d
     go zero l = let same : base * 1 % 2 ^ 64 ≡ base = omega arith in ap₂ bit_or (div-one base) same ∙ or_self base ∙ sym (turned_zero base ∙ mod-eq_of_lt fits)

@@ -1,7 +1,7 @@
 -- The laws of the product, each for all numbers or all symbols.
 use mathlib.Core.Path.{◌≡◌, refl, sym, ap, ap₂, ◌∙◌, subst}
 use Prim.Native.Nat.{ℕ, zero, suc, ◌+◌, ◌*◌, ◌/◌, ◌%◌, ◌<◌}
-use native.Mathlib.Nat.{mod_lt, mod-eq_of_lt, zero-lt-suc, zero-mul, one-mul, zero-add, suc-add}
+use native.Mathlib.Nat.{mod-lt, mod-eq_of_lt, zero-lt-suc, zero-mul, one-mul, zero-add, suc-add}
 use native.Mathlib.Omega.{arith}
 use lib.Bits.{xor_mod}
 use lib.Dec.{lit<}
@@ -14,7 +14,7 @@ use Rattle.gf64.proofs.Pairs.{pair, step_up, power31, inverse_at}
 -- the six low bits are a symbol
 pub low_lt : (x : ℕ) → low_six x < 64
 unfolding low_six
-low_lt x = mod_lt x (zero-lt-suc 63)
+low_lt x = mod-lt x (zero-lt-suc 63)
 
 -- a symbol is its own six low bits
 pub low_symbol : (x : ℕ) → x < 64 → low_six x ≡ x

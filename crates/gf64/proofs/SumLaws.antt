@@ -1,7 +1,7 @@
 -- The laws of the sum, from the laws of its binary digits.
 use mathlib.Core.Path.{◌≡◌, refl, sym, ap, ap₂, ◌∙◌}
 use Prim.Native.Nat.{ℕ, zero, suc, ◌+◌, ◌*◌, ◌/◌, ◌%◌, ◌<◌}
-use native.Mathlib.Nat.{mod_lt, zero-lt-suc}
+use native.Mathlib.Nat.{mod-lt, zero-lt-suc}
 use native.Mathlib.Omega.{arith}
 use lib.Dec.{lit<}
 use lib.Arith.{bin_ind, digits_div, digits_mod}
@@ -28,7 +28,7 @@ differ_lt (suc (suc x)) y hx hy = absurd (omega arith)
 
 -- the last bit is 0 or 1
 pub last_bit : (x : ℕ) → x % 2 < 2
-last_bit x = mod_lt x (zero-lt-suc 1)
+last_bit x = mod-lt x (zero-lt-suc 1)
 
 -- so is the sum of two last bits
 bits_lt : (x y : ℕ) → differ (x % 2) (y % 2) < 2

@@ -2,7 +2,7 @@
 use mathlib.Core.Path.{◌≡◌, sym, ap, ◌∙◌, subst}
 use mathlib.Core.Logic.{◌⊎◌, inl, inr, ⊎_elim}
 use Prim.Native.Nat.{ℕ, suc, ◌+◌, ◌*◌, ◌/◌, ◌%◌, ◌-◌, ◌^◌, ◌≤◌, ◌<◌}
-use native.Mathlib.Nat.{mod_lt, div-add-mod', div-lt_iff_lt-mul}
+use native.Mathlib.Nat.{mod-lt, div-add-mod', div-lt_iff_lt-mul}
 use native.Mathlib.Omega.{arith}
 use lib.Arith.{digits_div, digits_mod, digits_lt}
 use lib.Pow.{pow_pos}
@@ -56,7 +56,7 @@ module _ (n d m : ℕ) (e : d + suc m ≡ n) where
   split t = div-add-mod' t (2 ^ m)
 
   rest : (t : ℕ) → t % 2 ^ m < 2 ^ m
-  rest t = mod_lt t (pow_pos m)
+  rest t = mod-lt t (pow_pos m)
 
   kernel_of : ℕ → ℕ
   kernel_of j = kernel_at (2 ^ m) (pow_pos m) j
@@ -128,7 +128,7 @@ one_kernel n d j ld lj = go (lt_or_le s c)
     parts = div-add-mod' j (c + c)
 
     s_lt : s < c + c
-    s_lt = mod_lt j (let p = pow_pos m in omega arith)
+    s_lt = mod-lt j (let p = pow_pos m in omega arith)
 
     block : w < 2 ^ d
     block =

@@ -4,7 +4,7 @@ use mathlib.Core.Path.{◌≡◌, refl, sym, ap, ap₂, ◌∙◌, subst}
 use mathlib.Core.Logic.{◌⊎◌, inl, inr}
 use mathlib.Core.List.{List, []}
 use Prim.Native.Nat.{ℕ, zero, suc, ◌+◌, ◌*◌, ◌/◌, ◌%◌, ◌-◌, ◌^◌, ◌≤◌, ◌<◌}
-use native.Mathlib.Nat.{add-zero, mod_lt, div-add-mod', div-lt_iff_lt-mul}
+use native.Mathlib.Nat.{add-zero, mod-lt, div-add-mod', div-lt_iff_lt-mul}
 use native.Mathlib.Omega.{arith}
 use lib.ListN.{length, get_or, take, drop}
 use lib.Pow.{pow_pos, shr_lt}
@@ -30,7 +30,7 @@ use Rattle.scms.proofs.BlockSums.{taken_first, taken_second, taken_sum}
 
 -- a number is twice its half, or one more
 halved : (w : ℕ) → (w ≡ w / 2 * 2) ⊎ (w ≡ w / 2 * 2 + 1)
-halved w = go (w % 2) refl (mod_lt w (omega arith))
+halved w = go (w % 2) refl (mod-lt w (omega arith))
   where
     go : (b : ℕ) → w % 2 ≡ b → b < 2 → (w ≡ w / 2 * 2) ⊎ (w ≡ w / 2 * 2 + 1)
     go zero e l = inl (omega arith)
@@ -178,7 +178,7 @@ module _ (code : Code) (mode : Mode) (frame s r : List ℕ) (ls : length s ≡ 2
           subst (λ (j : ℕ). taken_in code mode frame s (suc d) j ≡ taken_in code mode frame r (suc d) j) at_p
           (taken_first code mode frame s d m w c e refl p.0 ∙ sym (taken_first code mode frame r d m w c e refl p.0))
       go (inr k) =
-          let lx : x < 2 ^ suc m = mod_lt i (pow_pos (suc m)) in
+          let lx : x < 2 ^ suc m = mod-lt i (pow_pos (suc m)) in
           let p = place_of m (x - 2 ^ m) (omega arith) in
           let number_is = p.1 in
           let at_i = i_is in
@@ -200,7 +200,7 @@ u_depends n cs s r ls lr (suc d) t lw lt a = go (n - suc d) refl (let x = lw.mos
     go m k e =
         let w = t / 2 ^ m in
         let i = t % 2 ^ m in
-        let li : i < 2 ^ m = mod_lt t (pow_pos m) in
+        let li : i < 2 ^ m = mod-lt t (pow_pos m) in
         let q : w * 2 ^ m + i ≡ t = div-add-mod' t (2 ^ m) in
         let lb : w < 2 ^ d = (div-lt_iff_lt-mul (pow_pos m)).1 (subst (λ (x : ℕ). t < x) (half_blocks n d m e) lt) in
         let p = place_of m i li in

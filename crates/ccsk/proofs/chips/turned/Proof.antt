@@ -7,5 +7,5 @@ use Rattle.ccsk.proofs.chips.turned.Tie as tie
 returns : tie.Need-returns
 returns c = shifted c.args.base c.args.s c.ranges.base.fits
 
-pub turned-spec : {M : Type 1} → statement M
-turned-spec = tie.close (tie.spec (λ c. search rules) (λ c. search rules) (λ c. search rules) returns)
+pub turned_spec : {M : Type 1} → statement M
+turned_spec = tie.close (tie.spec (λ c. search rules) (λ c. search rules) (λ c. search rules) returns)

@@ -9,19 +9,19 @@ use Rattle.ccsk.proofs.spreader.spread_refusal.Tie as tie
 returns : tie.Need-returns
 unfolding unequal spread_refusal
 returns c4 =
-    let c3 = c4.before.before in
-    let c2 = c3.before.before in
-    let c1 = c2.before in
+    let c3 = c4 in
+    let c2 = c3 in
+    let c1 = c2 in
     walked [] _ tt (simp (
-      c4.first4.ensures,
-      c4.before.turned.ensures,
-      tried _ _ c3.first3.ensures c3.before.any-outside.ensures,
-      c2.first2.ensures,
-      tried _ _ c1.first.ensures c1.before.is-size-outside.ensures,
+      c4.first.ensures,
+      c4.turned.ensures,
+      tried _ _ c3.first-r-3.ensures c3.any_outside.ensures,
+      c2.first-r-2.ensures,
+      tried _ _ c1.first-r.ensures c1.is_size_outside.ensures,
     ))
 
-pub spread-refusal-spec : {M : Type 1} → statement M
-spread-refusal-spec =
+pub spread_refusal_spec : {M : Type 1} → statement M
+spread_refusal_spec =
     tie.close (tie.spec
     (λ c κs. tt) (λ c κs. tt)
     (λ c κs. tt)

@@ -9,5 +9,5 @@ returns : tie.Need-returns
 unfolding digit
 returns c = refl
 
-pub digit-spec : {M : Type 1} → statement M
-digit-spec = tie.close (tie.spec (λ c. search rules) (λ c. search rules) returns)
+pub digit_spec : {M : Type 1} → statement M
+digit_spec = tie.close (tie.spec (λ c. search rules) (λ c. search rules) returns)

@@ -12,12 +12,12 @@ use Rattle.gf64.proofs.product_table.product.Tie as tie
 
 returns : tie.Need-returns
 returns c =
-    let a = c.before.before.before.args in
-    let equal : c.product-from.result ≡ a.x ⊙ a.y =
-    c.product-from.ensures
-    ∙ ap (λ (table : List (List ℕ)). entry_of table a.x a.y) c.before.before.products.ensures
+    let a = c.args in
+    let equal : c.product_from.result ≡ a.x ⊙ a.y =
+    c.product_from.ensures
+    ∙ ap (λ (table : List (List ℕ)). entry_of table a.x a.y) c.products-table.ensures
     ∙ entry_product a.x a.y in
     record { equal = equal; symbol = subst (λ (r : ℕ). r < 64) (sym equal) (product_lt a.x a.y) }
 
-pub product-spec : {M : Type 1} → statement M
-product-spec = tie.close (tie.spec (λ c κs. search rules) (λ c κs. search rules) returns)
+pub product_spec : {M : Type 1} → statement M
+product_spec = tie.close (tie.spec (λ c κs. search rules) (λ c κs. search rules) returns)

@@ -9,7 +9,7 @@ returns : tie.Need-returns
 unfolding entry_of row_of low_six
 returns c = search rules
 
-pub product-from-spec : {M : Type 1} → statement M
-product-from-spec =
+pub product_from_spec : {M : Type 1} → statement M
+product_from_spec =
     tie.close
     (tie.spec (λ c. search rules) (λ c. search rules) (λ c. search rules) (λ c. search rules) (λ c. search rules) returns)

@@ -11,5 +11,5 @@ returns : tie.Need-returns
 unfolding product_table product_row tabulate ◌⊙◌ product_bits times_a low_six ◌⊕◌
 returns c = refl
 
-pub products-spec : {M : Type 1} → statement M
-products-spec = tie.close (tie.spec returns)
+pub products_spec : {M : Type 1} → statement M
+products_spec = tie.close (tie.spec returns)

@@ -11,18 +11,18 @@ use Rattle.gf64.proofs.worked_out.with_bit.Statement.{statement}
 use Rattle.gf64.proofs.worked_out.with_bit.Tie as tie
 
 -- the bit times y
-added_lt : (c : tie.After-times-a) → c.before.args.bit * c.before.args.y < 64
-added_lt c = let a = c.before.args in bit_lt a.bit a.y c.before.requires.1 c.before.requires.2
+added_lt : (c : tie.After-times_a) → c.before.args.bit * c.before.args.y < 64
+added_lt c = let a = c.args in bit_lt a.bit a.y c.requires.1 c.requires.2
 
-mul-result : tie.Need-overflow-mul-result
+mul-result : tie.Need-overflow_mul-result
 mul-result c = let l = added_lt c in omega arith
 
 returns : tie.Need-returns
 unfolding ◌⊕◌
 returns c = (
-  ap (λ (p : ℕ). p ⊕ (c.before.args.bit * c.before.args.y)) c.times-a.ensures.0,
-  sum_lt c.times-a.result (c.before.args.bit * c.before.args.y) c.times-a.ensures.1 (added_lt c),
+  ap (λ (p : ℕ). p ⊕ (c.args.bit * c.args.y)) c.times_a.ensures.0,
+  sum_lt c.times_a.result (c.args.bit * c.args.y) c.times_a.ensures.1 (added_lt c),
 )
 
-pub with-bit-spec : {M : Type 1} → statement M
-with-bit-spec = tie.close (tie.spec (λ c κs. search rules) mul-result returns)
+pub with_bit_spec : {M : Type 1} → statement M
+with_bit_spec = tie.close (tie.spec (λ c κs. search rules) mul-result returns)

@@ -12,18 +12,18 @@ returns : tie.Need-returns
 unfolding unequal
 returns c3 =
     let s : tie.Start = search rules in
-    let c2 = c3.before.before in
-    let c1 = c2.before.before in
+    let c2 = c3 in
+    let c1 = c2 in
     sizes_tried (code_of s.args.n s.args.map.now s.args.coefs.now) (walked [] _ tt (simp (
-      c3.first3.ensures,
-      c3.before.kernel-count.ensures.0,
-      c2.first2.ensures,
-      c2.before.place-count.ensures.0,
-      tried _ _ c1.first.ensures c1.before.is-size-outside.ensures,
+      c3.first.ensures,
+      c3.kernel_count.ensures.0,
+      c2.first-r-2.ensures,
+      c2.place_count.ensures.0,
+      tried _ _ c1.first-r.ensures c1.is_size_outside.ensures,
     )))
 
-pub size-refusal-spec : {M : Type 1} → statement M
-size-refusal-spec =
+pub size_refusal_spec : {M : Type 1} → statement M
+size_refusal_spec =
     tie.close
     (tie.spec
     (λ c κs. tt) (λ c κs. tt)

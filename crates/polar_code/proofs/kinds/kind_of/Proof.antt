@@ -4,11 +4,11 @@ use Rattle.polar_code.proofs.MapLaws.{kind_message, kind_frozen}
 use Rattle.polar_code.proofs.kinds.kind_of.Statement.{statement}
 use Rattle.polar_code.proofs.kinds.kind_of.Tie as tie
 
-returns : tie.Need-returns
-returns c = sym (kind_message _ c.if1.true)
+returns : tie.Need-returns-then-byte-eq0
+returns c = sym (kind_message _ c.if-byte-eq0.true)
 
-returns-2 : tie.Need-returns-2
-returns-2 c = sym (kind_frozen _ c.if1.false)
+returns-2 : tie.Need-returns-else-byte-eq0
+returns-2 c = sym (kind_frozen _ c.if-byte-eq0.false)
 
-pub kind-of-spec : {M : Type 1} → statement M
-kind-of-spec = tie.close (tie.spec returns returns-2)
+pub kind_of_spec : {M : Type 1} → statement M
+kind_of_spec = tie.close (tie.spec returns returns-2)

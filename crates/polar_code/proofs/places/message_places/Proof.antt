@@ -12,59 +12,59 @@ use Rattle.polar_code.proofs.MapLaws.{Counted, count_more}
 use Rattle.polar_code.proofs.places.message_places.Statement.{statement}
 use Rattle.polar_code.proofs.places.message_places.Tie as tie
 
-abbrev invariant-loop : tie.invariant-loop
+abbrev invariant-loop : tie.invariant-loop-i
 invariant-loop map k₀ i₀ k i = Counted map k i
 
-abbrev decreases-loop : tie.decreases-loop
+abbrev decreases-loop : tie.decreases-loop-i
 decreases-loop map k₀ i₀ k i = length map - i
 
 -- the place where the loop's test is reached, from the one where the kind is known, and from there the entry
-abbrev at-loop : tie.After-kind-of invariant-loop decreases-loop → tie.At-loop invariant-loop decreases-loop
+abbrev at-loop : tie.After-kind_of-kind invariant-loop decreases-loop → tie.At-loop-i invariant-loop decreases-loop
 at-loop c = c.before.before.before
 
-abbrev entry : tie.At-loop invariant-loop decreases-loop → tie.Start invariant-loop decreases-loop
+abbrev entry : tie.At-loop-i invariant-loop decreases-loop → tie.Start invariant-loop decreases-loop
 entry c = c.before.before
 
-loop-holds : tie.Need-loop-init invariant-loop decreases-loop
+loop-holds : tie.Need-loop-i-init invariant-loop decreases-loop
 loop-holds c = omega arith
 
-shared-slice-read-kind-of : tie.Need-shared-slice-read-kind-of invariant-loop decreases-loop
+shared-slice-read-kind-of : tie.Need-bounds-map-i invariant-loop decreases-loop
 shared-slice-read-kind-of c = search rules
 
-enum_told : tie.Need-enum-told invariant-loop decreases-loop
+enum_told : tie.Need-enum_told-1 invariant-loop decreases-loop
 enum_told c = search rules
 
-add-k : tie.Need-overflow-add-k invariant-loop decreases-loop
+add-k : tie.Need-overflow_add-k invariant-loop decreases-loop
 add-k c = search rules
 
-enum-told-2 : tie.Need-enum-told-2 invariant-loop decreases-loop
+enum-told-2 : tie.Need-enum_told-in_default invariant-loop decreases-loop
 enum-told-2 c = search rules
 
-add-i : tie.Need-overflow-add-i invariant-loop decreases-loop
+add-i : tie.Need-overflow_add-i invariant-loop decreases-loop
 add-i c = search rules
 
-loop-less : tie.Need-loop-smaller invariant-loop decreases-loop
+loop-less : tie.Need-loop-i-smaller invariant-loop decreases-loop
 loop-less c = search rules
 
-loop-again : tie.Need-loop-preserved invariant-loop decreases-loop
+loop-again : tie.Need-loop-i-preserved invariant-loop decreases-loop
 unfolding message_count
 loop-again c =
-    let kind = c.before.kind-of.ensures in
-    let at = (at-loop c.before).loop in
+    let kind = c.kind_of-kind.ensures in
+    let at = (at-loop c.before).loop-i in
     let map = (entry (at-loop c.before)).args.map.now in
     ⊎_elim
-    (λ w. count_more map at.k c.match.k at.i (search rules) (sym kind ∙ w.1.given.1) w.2 (lit≤ tt) at.inv)
-    (λ w. count_more map at.k c.match.k at.i (search rules) (sym kind ∙ w.1.given.1) (w.2 ∙ sym (add-zero at.k)) (lit≤ tt) at.inv)
-    c.match.branch
+    (λ w. count_more map at.k c.match-kind.k at.i (search rules) (sym kind ∙ w.in-Message.is) w.k-is (lit≤ tt) at.invariant)
+    (λ w. count_more map at.k c.match-kind.k at.i (search rules) (sym kind ∙ w.in_default.is) (w.k-is ∙ sym (add-zero at.k)) (lit≤ tt) at.invariant)
+    c.match-kind.branch-raw
 
 returns : tie.Need-returns invariant-loop decreases-loop
 unfolding message_places
 returns c =
-    let e = ap message_places (drop_of_length-le (entry c.before).args.map.now c.loop-test.false) in
+    let e = ap message_places (drop_of_length-le (entry c.before).args.map.now c.loop-i-test.false) in
     omega arith
 
-pub message-places-spec : {M : Type 1} → statement M
-message-places-spec =
+pub message_places_spec : {M : Type 1} → statement M
+message_places_spec =
     tie.close
     (tie.spec
     invariant-loop
