@@ -9,25 +9,25 @@ use borrow.Author.Rules.{rules}
 use Rattle.demapper.proofs.chips.chips_twice.Statement.{statement}
 use Rattle.demapper.proofs.chips.chips_twice.Tie as tie
 
-abbrev invariant-loop : tie.invariant-loop
+abbrev invariant-loop : tie.invariant-loop-j
 invariant-loop base chips₀ j₀ chips j = Filled 128 (λ i. chip base (i % 64)) chips j
 
-abbrev decreases-loop : tie.decreases-loop
+abbrev decreases-loop : tie.decreases-loop-j
 decreases-loop base chips₀ j₀ chips j = 128 - j
 
-loop-holds : tie.Need-loop-init invariant-loop decreases-loop
+loop-holds : tie.Need-loop-j-init invariant-loop decreases-loop
 loop-holds c = fill_none refl
 
-loop-again : tie.Need-loop-preserved invariant-loop decreases-loop
+loop-again : tie.Need-loop-j-preserved invariant-loop decreases-loop
 unfolding chip
-loop-again c = fill_more c.before.loop.invariant (omega arith) refl
+loop-again c = fill_more c.loop-j.invariant (omega arith) refl
 
 returns : tie.Need-returns invariant-loop decreases-loop
 unfolding chips_twice
-returns c = fill_all c.before.loop.invariant c.loop-test.false
+returns c = fill_all c.loop-j.invariant c.loop-j-test.false
 
-pub chips-twice-spec : {M : Type 1} → statement M
-chips-twice-spec =
+pub chips_twice_spec : {M : Type 1} → statement M
+chips_twice_spec =
     tie.close (tie.spec invariant-loop decreases-loop
     loop-holds
     (λ c. search rules) (λ c. search rules) (λ c. search rules) (λ c. search rules) (λ c. search rules)

@@ -8,30 +8,30 @@ use Rattle.demapper.proofs.demapper.demap.Statement.{statement}
 use Rattle.demapper.proofs.demapper.demap.Tie as tie
 
 -- the entry, from the place where nothing is refused
-abbrev entry : tie.Else1 → tie.Start
-entry c = c.before.before.before.before
+abbrev entry : tie.Else-refused-ne0 → tie.Start
+entry c = c.before.before.before
 
 -- there the input is accepted
-none_fits : (c : tie.Else1) → demap_refusal (entry c).args.base (entry c).args.top (entry c).args.bottom (entry c).args.qc (entry c).args.samples.now (entry c).args.llrs.now ≡ 0
-none_fits c = sym c.before.demap-refusal.ensures ∙ c.if1.false
+none_fits : (c : tie.Else-refused-ne0) → demap_refusal c.args.base c.args.top c.args.bottom c.args.qc c.args.samples.now c.args.llrs.now ≡ 0
+none_fits c = sym c.demap_refusal-refused.ensures ∙ c.if-refused-ne0.false
 
-returns : tie.Need-returns
+returns : tie.Need-returns-then-refused-ne0
 unfolding demap_buffer
 returns c =
-    let e = c.before.demap-refusal.ensures in
-    record { answer = e; frame = sym (when_refused _ _ _ (λ z. c.if1.true (e ∙ z))) }
+    let e = c.demap_refusal-refused.ensures in
+    record { answer = e; frame = sym (when_refused _ _ _ (λ z. c.if-refused-ne0.true (e ∙ z))) }
 
-write-llrs-requires : tie.Need-write-llrs-requires
+write-llrs-requires : tie.Need-write_llrs-requires
 write-llrs-requires c κs = symbols _ _ _ _ _ _ (accepted _ _ _ _ _ _ (none_fits c.before))
 
-returns-2 : tie.Need-returns-2
+returns-2 : tie.Need-returns
 unfolding demap_buffer
 returns-2 c =
     let z = none_fits c.before.before.before.before in
-    record { answer = sym z; frame = c.before.before.write-llrs.ensures ∙ sym (when_accepted _ _ _ z) }
+    record { answer = sym z; frame = c.write_llrs.ensures ∙ sym (when_accepted _ _ _ z) }
 
-pub demap-spec : {M : Type 1} → statement M
-demap-spec =
+pub demap_spec : {M : Type 1} → statement M
+demap_spec =
     tie.close (tie.spec
     (λ c κs. search rules) (λ c. search rules)
     returns

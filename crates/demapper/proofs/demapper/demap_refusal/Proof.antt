@@ -9,25 +9,25 @@ use Rattle.demapper.proofs.demapper.demap_refusal.Tie as tie
 returns : tie.Need-returns
 unfolding unequal demap_refusal
 returns c7 =
-    let c6 = c7.before.before in
-    let c5 = c6.before.before in
-    let c4 = c5.before.before in
-    let c3 = c4.before.before in
-    let c2 = c3.before in
-    let c1 = c2.before.before in
+    let c6 = c7 in
+    let c5 = c6 in
+    let c4 = c5 in
+    let c3 = c4 in
+    let c2 = c3 in
+    let c1 = c2 in
     walked [] _ tt (simp (
-      tried _ _ c7.first7.ensures c7.before.is-outside3.ensures,
-      tried _ _ c6.first6.ensures c6.before.is-outside2.ensures,
-      c5.first5.ensures,
-      c5.before.turned.ensures,
-      tried _ _ c4.first4.ensures c4.before.is-outside.ensures,
-      c3.first3.ensures,
-      tried _ _ c2.first2.ensures c2.before.is-size-outside.ensures,
-      c1.first.ensures,
+      tried _ _ c7.first.ensures c7.is_outside-3.ensures,
+      tried _ _ c6.first-r-6.ensures c6.is_outside-2.ensures,
+      c5.first-r-5.ensures,
+      c5.turned.ensures,
+      tried _ _ c4.first-r-4.ensures c4.is_outside.ensures,
+      c3.first-r-3.ensures,
+      tried _ _ c2.first-r-2.ensures c2.is_size_outside.ensures,
+      c1.first-r.ensures,
     ))
 
-pub demap-refusal-spec : {M : Type 1} → statement M
-demap-refusal-spec =
+pub demap_refusal_spec : {M : Type 1} → statement M
+demap_refusal_spec =
     tie.close (tie.spec
     (λ c κs. tt)
     (λ c κs. tt) (λ c κs. tt)

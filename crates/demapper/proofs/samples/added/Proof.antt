@@ -7,13 +7,13 @@ use Rattle.demapper.specs.Samples.{added}
 use Rattle.demapper.proofs.samples.added.Statement.{statement}
 use Rattle.demapper.proofs.samples.added.Tie as tie
 
-returns : tie.Need-returns
+returns : tie.Need-returns-then-hard-chip
 unfolding added
-returns c = (sym (ap (λ (b : Bool). cond b 0 c.before.args.size) (eq-eqb _ _ c.if1.true)), omega arith)
+returns c = (sym (ap (λ (b : Bool). cond b 0 c.args.size) (eq-eqb _ _ c.if-hard-chip.true)), omega arith)
 
-returns-2 : tie.Need-returns-2
+returns-2 : tie.Need-returns-else-hard-chip
 unfolding added
-returns-2 c = (sym (ap (λ (b : Bool). cond b 0 c.before.args.size) (ne_eqb _ _ c.if1.false)), omega arith)
+returns-2 c = (sym (ap (λ (b : Bool). cond b 0 c.args.size) (ne_eqb _ _ c.if-hard-chip.false)), omega arith)
 
-pub added-spec : {M : Type 1} → statement M
-added-spec = tie.close (tie.spec returns returns-2)
+pub added_spec : {M : Type 1} → statement M
+added_spec = tie.close (tie.spec returns returns-2)

@@ -14,37 +14,37 @@ size : (c : tie.Start) → nat_abs c.args.sample ≤ 128
 size c = small_size c.args.sample c.ranges.sample
 
 -- below 0: what the sample gives taken off 0
-below : (c : tie.Then1) → pos 0 -ℤ to_z w16 (of_z w16 (to_z w8 (of_z w8 c.before.args.sample))) ≡ pos (nat_abs c.before.args.sample)
-below c = negated c.before.args.sample c.before.ranges.sample c.if1.true
+below : (c : tie.Then-wide-lt0) → pos 0 -ℤ to_z w16 (of_z w16 (to_z w8 (of_z w8 c.before.args.sample))) ≡ pos (nat_abs c.before.args.sample)
+below c = negated c.args.sample c.ranges.sample c.if-wide-lt0.true
 
 -- not below 0: the sample itself
-above : (c : tie.Else1) → to_z w8 (of_z w8 c.before.args.sample) ≡ pos (nat_abs c.before.args.sample)
-above c = kept c.before.args.sample c.before.ranges.sample c.if1.false
+above : (c : tie.Else-wide-lt0) → to_z w8 (of_z w8 c.before.args.sample) ≡ pos (nat_abs c.before.args.sample)
+above c = kept c.args.sample c.ranges.sample c.if-wide-lt0.false
 
-cast-wide : tie.Need-overflow-cast-wide
+cast-wide : tie.Need-overflow_cast-wide
 cast-wide c = widened c.args.sample c.ranges.sample
 
-sub-size : tie.Need-overflow-sub-size
+sub-size : tie.Need-overflow_sub-size
 sub-size c = result_fits _ _ (below c) (size c.before)
 
-cast-size : tie.Need-overflow-cast-size
+cast-size : tie.Need-overflow_cast-size
 cast-size c = result_cast _ _ (below c) (size c.before)
 
-cast-result : tie.Need-overflow-cast-result
+cast-result : tie.Need-overflow_cast-result
 cast-result c = result_cast _ _ (above c) (size c.before)
 
-returns : tie.Need-returns
+returns : tie.Need-returns-then-wide-lt0
 returns c =
     let e = result_is _ _ (below c) (size c.before) in
-    let m = negated_size c.before.args.sample c.before.ranges.sample c.if1.true in
+    let m = negated_size c.args.sample c.ranges.sample c.if-wide-lt0.true in
     (omega arith, omega arith)
 
-returns-2 : tie.Need-returns-2
+returns-2 : tie.Need-returns-else-wide-lt0
 returns-2 c =
     let e = result_is _ _ (above c) (size c.before) in
-    let m = kept_size c.before.args.sample c.before.ranges.sample c.if1.false in
+    let m = kept_size c.args.sample c.ranges.sample c.if-wide-lt0.false in
     (e ∙ m.0, omega (arith, m.1))
 
-pub magnitude-spec : {M : Type 1} → statement M
-magnitude-spec =
+pub magnitude_spec : {M : Type 1} → statement M
+magnitude_spec =
     tie.close (tie.spec cast-wide sub-size cast-size cast-result returns returns-2)

@@ -9,24 +9,24 @@ use borrow.Author.Rules.{rules}
 use Rattle.demapper.proofs.samples.quantise.Statement.{statement}
 use Rattle.demapper.proofs.samples.quantise.Tie as tie
 
-abbrev invariant-loop : tie.invariant-loop
+abbrev invariant-loop : tie.invariant-loop-s
 invariant-loop v top bottom qc r₀ s₀ r s = Filled 64 (λ i. quantised top bottom qc (get_or v i 0)) r s
 
-abbrev decreases-loop : tie.decreases-loop
+abbrev decreases-loop : tie.decreases-loop-s
 decreases-loop v top bottom qc r₀ s₀ r s = 64 - s
 
-loop-holds : tie.Need-loop-init invariant-loop decreases-loop
+loop-holds : tie.Need-loop-s-init invariant-loop decreases-loop
 loop-holds c = fill_none refl
 
-loop-again : tie.Need-loop-preserved invariant-loop decreases-loop
-loop-again c = fill_more c.before.before.before.loop.invariant (omega arith) c.quantised.ensures
+loop-again : tie.Need-loop-s-preserved invariant-loop decreases-loop
+loop-again c = fill_more c.loop-s.invariant (omega arith) c.quantised.ensures
 
 returns : tie.Need-returns invariant-loop decreases-loop
 unfolding quantised_llrs
-returns c = fill_all c.before.loop.invariant c.loop-test.false
+returns c = fill_all c.loop-s.invariant c.loop-s-test.false
 
-pub quantise-spec : {M : Type 1} → statement M
-quantise-spec =
+pub quantise_spec : {M : Type 1} → statement M
+quantise_spec =
     tie.close (tie.spec invariant-loop decreases-loop
     loop-holds
     (λ c. search rules) (λ c. search rules) (λ c κs. search rules) (λ c. search rules) (λ c. search rules)

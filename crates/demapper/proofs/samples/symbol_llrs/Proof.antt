@@ -10,12 +10,12 @@ use Rattle.demapper.proofs.samples.symbol_llrs.Tie as tie
 
 returns : tie.Need-returns
 returns c =
-    let less = c.before.before.before in
-    let raw = less.before.before in
-    let a = raw.before.args in
+    let less = c in
+    let raw = less in
+    let a = raw.args in
     c.quantise.ensures
-    ∙ ap (λ (v : List ℕ). quantised_llrs a.top a.bottom a.qc v) (less.subtract-least.ensures.0 ∙ ap less_least raw.raw-llrs.ensures)
+    ∙ ap (λ (v : List ℕ). quantised_llrs a.top a.bottom a.qc v) (less.subtract_least-low.ensures.0 ∙ ap less_least raw.raw_llrs-raw.ensures)
 
-pub symbol-llrs-spec : {M : Type 1} → statement M
-symbol-llrs-spec =
+pub symbol_llrs_spec : {M : Type 1} → statement M
+symbol_llrs_spec =
     tie.close (tie.spec (λ c κs. search rules) (λ c κs. search rules) (λ c κs. search rules) returns)

@@ -10,41 +10,41 @@ use borrow.Author.Rules.{rules}
 use Rattle.demapper.proofs.samples.with_sample.Statement.{statement}
 use Rattle.demapper.proofs.samples.with_sample.Tie as tie
 
-abbrev invariant-loop : tie.invariant-loop
+abbrev invariant-loop : tie.invariant-loop-s
 invariant-loop sums chips k hard size next₀ s₀ next s = Filled 64 (λ i. get_or sums i 0 + added (get_or chips (k + i) 0) hard size) next s
 
-abbrev decreases-loop : tie.decreases-loop
+abbrev decreases-loop : tie.decreases-loop-s
 decreases-loop sums chips k hard size next₀ s₀ next s = 64 - s
 
 -- the loop's head, from the place where the number to add is known, and the entry, from the head
-abbrev at-loop : tie.After-added invariant-loop decreases-loop → tie.At-loop invariant-loop decreases-loop
-at-loop c = c.before.before.before.before
+abbrev at-loop : tie.After-added invariant-loop decreases-loop → tie.At-loop-s invariant-loop decreases-loop
+at-loop c = c.before.before.before.before.before.before
 
-abbrev entry : tie.At-loop invariant-loop decreases-loop → tie.Start invariant-loop decreases-loop
+abbrev entry : tie.At-loop-s invariant-loop decreases-loop → tie.Start invariant-loop decreases-loop
 entry c = c.before
 
-loop-holds : tie.Need-loop-init invariant-loop decreases-loop
+loop-holds : tie.Need-loop-s-init invariant-loop decreases-loop
 loop-holds c = fill_none refl
 
-add-next : tie.Need-overflow-add-next invariant-loop decreases-loop
+add-next : tie.Need-overflow_add-next invariant-loop decreases-loop
 add-next c =
     let start = entry (at-loop c) in
-    let few = start.pre.few in
-    let small = start.pre.small in
+    let few = start.requires.few in
+    let small = start.requires.small in
     let more = c.added.ensures.1 in
-    omega (arith, start.pre.sums_small (at-loop c).loop.s (omega arith))
+    omega (arith, start.requires.sums_small c.loop-s.s (omega arith))
 
-loop-again : tie.Need-loop-preserved invariant-loop decreases-loop
+loop-again : tie.Need-loop-s-preserved invariant-loop decreases-loop
 loop-again c =
-    let at = (at-loop c).loop in
-    fill_more at.inv (omega arith) (ap (λ (x : ℕ). get_or (entry (at-loop c)).args.sums.now at.s 0 + x) c.added.ensures.0)
+    let at = c.loop-s in
+    fill_more at.invariant (omega arith) (ap (λ (x : ℕ). get_or c.args.sums.now at.s 0 + x) c.added.ensures.0)
 
 returns : tie.Need-returns invariant-loop decreases-loop
 unfolding with_sample
-returns c = fill_all c.before.loop.invariant c.loop-test.false
+returns c = fill_all c.loop-s.invariant c.loop-s-test.false
 
-pub with-sample-spec : {M : Type 1} → statement M
-with-sample-spec =
+pub with_sample_spec : {M : Type 1} → statement M
+with_sample_spec =
     tie.close (tie.spec invariant-loop decreases-loop
     loop-holds
     (λ c. search rules) (λ c. search rules) (λ c. search rules) (λ c. search rules) (λ c. search rules)

@@ -9,18 +9,18 @@ use Rattle.polar.proofs.encoder.encode.Statement.{statement}
 use Rattle.polar.proofs.encoder.encode.Tie as tie
 
 -- the entry, from the place where nothing is refused
-abbrev entry : tie.Else1 → tie.Start
-entry c = c.before.before.before.before.before.before.before
+abbrev entry : tie.Else-refused-ne0 → tie.Start
+entry c = c.before.before.before.before.before.before
 
 -- that place, from the one where the message is placed; this one, from the one where the table is taken; and this one,
 -- from the one where the word is transformed
-abbrev to-accepted : tie.After-place-message → tie.Else1
+abbrev to-accepted : tie.After-place_message → tie.Else-refused-ne0
 to-accepted c = c.before.before
 
-abbrev to-placed : tie.After-products → tie.After-place-message
+abbrev to-placed : tie.After-products-table → tie.After-place_message
 to-placed c = c.before.before.before
 
-abbrev to-table : tie.After-transform-block → tie.After-products
+abbrev to-table : tie.After-transform_block → tie.After-products-table
 to-table c = c.before.before.before
 
 -- the code that it was given
@@ -28,50 +28,50 @@ abbrev given : tie.Start → Code
 given s = code_of s.args.n s.args.map.now s.args.coefs.now
 
 -- there the input is accepted
-none_fits : (c : tie.Else1) → encode_refusal (given (entry c)) (entry c).args.message.now (entry c).args.codeword.now ≡ 0
-none_fits c = sym c.before.encode-refusal.ensures ∙ c.if1.false
+none_fits : (c : tie.Else-refused-ne0) → encode_refusal (given (entry c)) c.args.message.now c.args.codeword.now ≡ 0
+none_fits c = sym c.encode_refusal-refused.ensures ∙ c.if-refused-ne0.false
 
-input : (c : tie.Else1) → Encodable (given (entry c)) (entry c).args.message.now (entry c).args.codeword.now
+input : (c : tie.Else-refused-ne0) → Encodable (given (entry c)) c.args.message.now c.args.codeword.now
 input c = accepted _ _ _ (none_fits c)
 
-encode-refusal-requires : tie.Need-encode-refusal-requires
+encode-refusal-requires : tie.Need-encode_refusal-refused-requires
 encode-refusal-requires c κs = search rules
 
-same_length : tie.Need-same-length
+same_length : tie.Need-shape_of-codeword-then-refused-ne0
 same_length c = search rules
 
-returns : tie.Need-returns
+returns : tie.Need-returns-then-refused-ne0
 unfolding encode_buffer
 returns c =
-    let e = c.before.encode-refusal.ensures in
-    record { answer = e; codeword = sym (when_refused _ _ _ (λ z. c.if1.true (e ∙ z))) }
+    let e = c.encode_refusal-refused.ensures in
+    record { answer = e; codeword = sym (when_refused _ _ _ (λ z. c.if-refused-ne0.true (e ∙ z))) }
 
-place-message-requires : tie.Need-place-message-requires
+place-message-requires : tie.Need-place_message-requires
 place-message-requires c κs = placing _ _ _ (input c.before)
 
-transform-block-requires : tie.Need-transform-block-requires
+transform-block-requires : tie.Need-transform_block-requires
 transform-block-requires c κs =
-    let q = c.before.before in
-    let p = to-placed q in
-    (word_is_whole _ _ _ (input (to-accepted p)) _ p.place-message.ensures, q.products.ensures)
+    let q = c in
+    let p = to-placed q.before.before in
+    (word_is_whole _ _ _ (input (to-accepted p)) _ p.place_message.ensures, q.products-table.ensures)
 
-same-length-2 : tie.Need-same-length-2
+same-length-2 : tie.Need-shape_of-codeword
 same-length-2 c = search rules
 
-returns-2 : tie.Need-returns-2
+returns-2 : tie.Need-returns
 unfolding encode_buffer
 returns-2 c =
-    let t = c.before.before in
-    let p = to-placed (to-table t) in
+    let t = c in
+    let p = to-placed (to-table t.before.before) in
     let e = to-accepted p in
     record {
       answer = sym (none_fits e);
-      codeword = whole_word _ _ _ (input e) _ _ p.place-message.ensures t.transform-block.ensures
+      codeword = whole_word _ _ _ (input e) _ _ p.place_message.ensures t.transform_block.ensures
           ∙ sym (when_accepted _ _ _ (none_fits e));
     }
 
-pub encode-spec : {M : Type 1} → statement M
-encode-spec =
+pub encode_spec : {M : Type 1} → statement M
+encode_spec =
     tie.close
     (tie.spec
     encode-refusal-requires

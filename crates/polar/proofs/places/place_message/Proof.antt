@@ -16,81 +16,86 @@ use Rattle.polar.proofs.MessageLaws.{PlacedTo, place_more, next_placed, next_lef
 use Rattle.polar.proofs.places.place_message.Statement.{statement}
 use Rattle.polar.proofs.places.place_message.Tie as tie
 
-abbrev invariant-loop : tie.invariant-loop
+abbrev invariant-loop : tie.invariant-loop-j
 invariant-loop map symbols word₀ next₀ j₀ word next j = PlacedTo map symbols word₀ word next j
 
-abbrev decreases-loop : tie.decreases-loop
+abbrev decreases-loop : tie.decreases-loop-j
 decreases-loop map symbols word₀ next₀ j₀ word next j = length map - j
 
 -- the place where the loop's test is reached, from the one where the kind is known, and from there the entry
-abbrev at-loop : tie.After-kind-of invariant-loop decreases-loop → tie.At-loop invariant-loop decreases-loop
+abbrev at-loop : tie.After-kind_of-kind invariant-loop decreases-loop → tie.At-loop-j invariant-loop decreases-loop
 at-loop c = c.before.before.before
 
-abbrev entry : tie.At-loop invariant-loop decreases-loop → tie.Start invariant-loop decreases-loop
+abbrev entry : tie.At-loop-j invariant-loop decreases-loop → tie.Start invariant-loop decreases-loop
 entry c = c.before.before.before.before
 
-loop-holds : tie.Need-loop-init invariant-loop decreases-loop
-loop-holds c = (omega arith, refl, let e = c.before.before.before.requires.enough in omega arith, refl)
+loop-holds : tie.Need-loop-j-init invariant-loop decreases-loop
+loop-holds c = (omega arith, refl, let e = c.requires.enough in omega arith, refl)
 
-shared-slice-read-kind-of : tie.Need-shared-slice-read-kind-of invariant-loop decreases-loop
+shared-slice-read-kind-of : tie.Need-bounds-map-j invariant-loop decreases-loop
 shared-slice-read-kind-of c = search rules
 
-enum_told : tie.Need-enum-told invariant-loop decreases-loop
+enum_told : tie.Need-enum_told-1 invariant-loop decreases-loop
 enum_told c = search rules
 
 -- the kind of the place is the one found
-kind_is : (c : tie.After-kind-of invariant-loop decreases-loop) → c.kind-of.result ≡ kind_of (get_or (entry (at-loop c)).args.map.now (at-loop c).loop.j 0)
-kind_is c = c.kind-of.ensures
+kind_is : (c : tie.After-kind_of-kind invariant-loop decreases-loop) → c.kind_of-kind.result ≡ kind_of (get_or c.args.map.now c.loop-j.j 0)
+kind_is c = c.kind_of-kind.ensures
 
 -- in a message place there is a symbol left
-next_there : (c : tie.After-shared-slice-known4 invariant-loop decreases-loop)
-    → (at-loop c.before.before.before).loop.next < length (entry (at-loop c.before.before.before)).args.symbols.now
+next_there : (c : tie.After-shared_slice_known-in-Message-1 invariant-loop decreases-loop)
+    → c.loop-j.next < length c.args.symbols.now
 unfolding message_count
 next_there c =
-    let k = c.before.before.before in
-    let a = (entry (at-loop k)).args in
-    let l : (at-loop k).loop.j < length a.map.now = search rules in
-    let e = places_from a.map.now (at-loop k).loop.j l (sym (kind_is k) ∙ c.before.enum_told.given.1) in
+    let k = c in
+    let a = k.args in
+    let l : k.loop-j.j < length a.map.now = search rules in
+    let e = places_from a.map.now k.loop-j.j l (sym (kind_is k.before.before) ∙ c.in-Message.is) in
     omega arith
 
-shared-slice-read-s : tie.Need-shared-slice-read-s invariant-loop decreases-loop
-shared-slice-read-s c = next_there c
+shared-slice-read-s : tie.Need-bounds-symbols-next invariant-loop decreases-loop
+unfolding message_count
+shared-slice-read-s c =
+    let a = c.args in
+    let l : c.loop-j.j < length a.map.now = search rules in
+    let e = places_from a.map.now c.loop-j.j l (sym c.kind_of-kind.ensures ∙ c.in-Message.is) in
+    omega arith
 
-slice-write-word : tie.Need-slice-write-word invariant-loop decreases-loop
+slice-write-word : tie.Need-bounds-word-j invariant-loop decreases-loop
 slice-write-word c = search rules
 
-add-next : tie.Need-overflow-add-next invariant-loop decreases-loop
+add-next : tie.Need-overflow_add-next invariant-loop decreases-loop
 add-next c = let l = next_there c in search rules
 
-enum-known-kind : tie.Need-enum-known-kind invariant-loop decreases-loop
+enum-known-kind : tie.Need-enum_known-kind invariant-loop decreases-loop
 enum-known-kind c = search rules
 
-slice-write-word-2 : tie.Need-slice-write-word-2 invariant-loop decreases-loop
+slice-write-word-2 : tie.Need-bounds-word-j-in-Frozen invariant-loop decreases-loop
 slice-write-word-2 c = search rules
 
-add-j : tie.Need-overflow-add-j invariant-loop decreases-loop
+add-j : tie.Need-overflow_add-j invariant-loop decreases-loop
 add-j c = search rules
 
-loop-less : tie.Need-loop-smaller invariant-loop decreases-loop
+loop-less : tie.Need-loop-j-smaller invariant-loop decreases-loop
 loop-less c = search rules
 
-loop-again : tie.Need-loop-preserved invariant-loop decreases-loop
+loop-again : tie.Need-loop-j-preserved invariant-loop decreases-loop
 unfolding symbol_at rest_after message_count
 loop-again c =
-    let a = (entry (at-loop c.before)).args in
-    let at = (at-loop c.before).loop in
+    let a = c.args in
+    let at = c.loop-j in
     let kind = sym (kind_is c.before) in
     ⊎_elim
     (λ w. place_more a.map.now a.symbols.now a.word.now at.word at.next at.j (search rules) (search rules)
-    (kind ∙ w.1.given.1) c.match.word c.match.next
-    (w.3 ∙ ap (set at.word at.j) (sym (next_placed a.symbols.now at.next))) w.4
-    (next_left a.symbols.now at.next ∙ ap (λ (x : ℕ). drop x a.symbols.now) (sym w.4)) at.inv)
+    (kind ∙ w.in-Message.is) c.match-kind.word c.match-kind.next
+    (w.word-is ∙ ap (set at.word at.j) (sym (next_placed a.symbols.now at.next))) w.next-is
+    (next_left a.symbols.now at.next ∙ ap (λ (x : ℕ). drop x a.symbols.now) (sym w.next-is)) at.invariant)
     (λ w. place_more a.map.now a.symbols.now a.word.now at.word at.next at.j (search rules) (search rules)
-    (kind ∙ w.1.given.1) c.match.word c.match.next
-    w.3 (w.4 ∙ sym (add-zero at.next)) (ap (λ (x : ℕ). drop x a.symbols.now) (sym w.4)) at.inv)
-    c.match.branch
+    (kind ∙ w.in-Frozen.is) c.match-kind.word c.match-kind.next
+    w.word-is (w.next-is ∙ sym (add-zero at.next)) (ap (λ (x : ℕ). drop x a.symbols.now) (sym w.next-is)) at.invariant)
+    c.match-kind.branch-raw
 
-same_length : tie.Need-same-length invariant-loop decreases-loop
+same_length : tie.Need-shape_of-word invariant-loop decreases-loop
 same_length c = search rules
 
 returns : tie.Need-returns invariant-loop decreases-loop
@@ -98,15 +103,15 @@ unfolding word_before
 returns c =
     let s = entry c.before in
     let a = s.args in
-    let at = c.before.loop in
+    let at = c.loop-j in
     let e : length a.map.now ≡ at.j = omega arith in
     sym
     (at.invariant.3
-    ∙ ap (λ (x : List ℕ). take at.j at.word ++ word_before x (drop at.next a.symbols.now)) (drop_of_length-le a.map.now c.loop-test.false)
-    ∙ append-nil (take at.j at.word) ∙ take_all at.j at.word (let p = s.pre.places in search rules))
+    ∙ ap (λ (x : List ℕ). take at.j at.word ++ word_before x (drop at.next a.symbols.now)) (drop_of_length-le a.map.now c.loop-j-test.false)
+    ∙ append-nil (take at.j at.word) ∙ take_all at.j at.word (let p = s.requires.places in search rules))
 
-pub place-message-spec : {M : Type 1} → statement M
-place-message-spec =
+pub place_message_spec : {M : Type 1} → statement M
+place_message_spec =
     tie.close
     (tie.spec
     invariant-loop

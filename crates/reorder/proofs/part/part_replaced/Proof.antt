@@ -12,58 +12,58 @@ use Rattle.reorder.proofs.LoopLaws.{map_none, map_more, map_all}
 use Rattle.reorder.proofs.part.part_replaced.Statement.{statement}
 use Rattle.reorder.proofs.part.part_replaced.Tie as tie
 
-abbrev invariant-loop : tie.invariant-loop
+abbrev invariant-loop : tie.invariant-loop-i
 invariant-loop v from run first count by r₀ i₀ r i = (i ≤ count) × (length r₀ ≡ 64 → Mapped (λ c _. get_or v ((from + (c - first)) ⊕ (run % 64)) 0) first (first + i) r₀ r)
 
-abbrev decreases-loop : tie.decreases-loop
+abbrev decreases-loop : tie.decreases-loop-i
 decreases-loop v from run first count by r₀ i₀ r i = count - i
 
 -- the entry, from the loop's head
-abbrev entry : tie.At-loop invariant-loop decreases-loop → tie.Start invariant-loop decreases-loop
+abbrev entry : tie.At-loop-i invariant-loop decreases-loop → tie.Start invariant-loop decreases-loop
 entry c = c.before.before.before.before
 
-returns : tie.Need-returns invariant-loop decreases-loop
+returns : tie.Need-returns-then-count-gt64 invariant-loop decreases-loop
 returns c = record { replaced = λ e l m. absurd (omega arith); kept = λ l. refl }
 
-returns-2 : tie.Need-returns-2 invariant-loop decreases-loop
+returns-2 : tie.Need-returns-then-count-first invariant-loop decreases-loop
 returns-2 c = record { replaced = λ e l m. absurd (omega arith); kept = λ l. refl }
 
-returns-3 : tie.Need-returns-3 invariant-loop decreases-loop
+returns-3 : tie.Need-returns-then-count-from invariant-loop decreases-loop
 returns-3 c = record { replaced = λ e l m. absurd (omega arith); kept = λ l. refl }
 
-loop-holds : tie.Need-loop-init invariant-loop decreases-loop
+loop-holds : tie.Need-loop-i-init invariant-loop decreases-loop
 loop-holds c = (omega arith, λ e. map_none (omega arith) e)
 
 -- the index read is below 64
-index_small : (c : tie.In-loop invariant-loop decreases-loop) → ((entry c.before).args.from + c.before.loop.i) ⊕ ((entry c.before).args.run % 64) < 64
+index_small : (c : tie.In-loop-i invariant-loop decreases-loop) → ((entry c.before).args.from + c.before.loop-i.i) ⊕ ((entry c.before).args.run % 64) < 64
 index_small c = sum_lt _ _ (omega arith) (omega arith)
 
-mul-r : tie.Need-overflow-mul-r invariant-loop decreases-loop
+mul-r : tie.Need-offset_bounds-v-from invariant-loop decreases-loop
 unfolding ◌⊕◌
 mul-r c = let l = index_small c in omega arith
 
-element-copy-out-r : tie.Need-element-copy-out-r invariant-loop decreases-loop
+element-copy-out-r : tie.Need-bounds-v-from invariant-loop decreases-loop
 unfolding ◌⊕◌
-element-copy-out-r c = index_small c
+element-copy-out-r c = index_small c.before
 
-loop-again : tie.Need-loop-preserved invariant-loop decreases-loop
+loop-again : tie.Need-loop-i-preserved invariant-loop decreases-loop
 unfolding ◌⊕◌
 loop-again c =
-    let head = c.before.before in
-    let a = (entry head).args in
-    let k : head.loop.i ≡ a.first + head.loop.i - a.first = omega arith in (
+    let head = c in
+    let a = (entry head.before.before.before).args in
+    let k : head.loop-i.i ≡ a.first + head.loop-i.i - a.first = omega arith in (
       omega arith,
-      λ e. map_more (head.loop.invariant.1 e) (omega arith) (omega arith) (omega arith) (ap (λ (n : ℕ). get_or a.v.now ((a.from + n) ⊕ (a.run % 64)) 0) k),
+      λ e. map_more (head.loop-i.invariant.1 e) (omega arith) (omega arith) (omega arith) (ap (λ (n : ℕ). get_or a.v.now ((a.from + n) ⊕ (a.run % 64)) 0) k),
     )
 
-returns-4 : tie.Need-returns-4 invariant-loop decreases-loop
+returns-4 : tie.Need-returns invariant-loop decreases-loop
 returns-4 c = record {
-  replaced = λ e l m. map_all (c.before.loop.invariant.1 e) (omega arith);
+  replaced = λ e l m. map_all (c.loop-i.invariant.1 e) (omega arith);
   kept = λ o. ⊎_elim (λ l. absurd (omega arith)) (λ l. absurd (omega arith)) o;
 }
 
-pub part-replaced-spec : {M : Type 1} → statement M
-part-replaced-spec =
+pub part_replaced_spec : {M : Type 1} → statement M
+part_replaced_spec =
     tie.close
     (tie.spec invariant-loop decreases-loop returns returns-2 returns-3 loop-holds
     (λ c. search rules)

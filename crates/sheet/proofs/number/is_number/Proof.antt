@@ -11,15 +11,15 @@ use Rattle.sheet.proofs.number.is_number.Tie as tie
 returns : tie.Need-returns
 unfolding is_field
 returns c =
-    let written = c.before.before.before in
-    let spelt = written.before.before in
-    let start = spelt.before.before in
+    let written = c in
+    let spelt = written in
+    let start = spelt in
     let text = start.args.text.now in
     c.is_same.ensures
-    ∙ ap (same text) (written.write-number.ensures ∙ ap (field 4) (spelt.spelled-number.ensures ∙ ap spelled (take_all 4 text (le_of_eq start.requires))))
+    ∙ ap (same text) (written.write_number.ensures ∙ ap (field 4) (spelt.spelled_number.ensures ∙ ap spelled (take_all 4 text (le_of_eq start.requires))))
 
-pub is-number-spec : {M : Type 1} → statement M
-is-number-spec =
+pub is_number_spec : {M : Type 1} → statement M
+is_number_spec =
     tie.close (tie.spec
     (λ c κs. search rules) (λ c. search rules) (λ c κs. search rules) (λ c. search rules) (λ c κs. search rules)
     returns)

@@ -10,44 +10,44 @@ use borrow.Author.Rules.{rules}
 use Rattle.sheet.proofs.number.is_same.Statement.{statement}
 use Rattle.sheet.proofs.number.is_same.Tie as tie
 
-abbrev invariant-loop : tie.invariant-loop
+abbrev invariant-loop : tie.invariant-loop-i
 invariant-loop text form i₀ i = (i ≤ length text) × (length text ≡ length form) × (same text form ≡ same (drop i text) (drop i form))
 
-abbrev decreases-loop : tie.decreases-loop
+abbrev decreases-loop : tie.decreases-loop-i
 decreases-loop text form i₀ i = length text - i
 
 -- the loop's head, from the place where two bytes are compared, and the entry, from the head
-abbrev at-loop : tie.After-is-written invariant-loop decreases-loop → tie.At-loop invariant-loop decreases-loop
+abbrev at-loop : tie.After-is_written invariant-loop decreases-loop → tie.At-loop-i invariant-loop decreases-loop
 at-loop c = c.before.before.before.before
 
-abbrev entry : tie.At-loop invariant-loop decreases-loop → tie.Start invariant-loop decreases-loop
+abbrev entry : tie.At-loop-i invariant-loop decreases-loop → tie.Start invariant-loop decreases-loop
 entry c = c.before.before.before
 
-loop-holds : tie.Need-loop-init invariant-loop decreases-loop
-loop-holds c = (omega arith, c.before.before.requires, refl)
+loop-holds : tie.Need-loop-i-init invariant-loop decreases-loop
+loop-holds c = (omega arith, c.requires, refl)
 
-returns : tie.Need-returns invariant-loop decreases-loop
+returns : tie.Need-returns-then-not-is_written invariant-loop decreases-loop
 returns c =
     let a = (entry (at-loop c.before)).args in
-    let at = (at-loop c.before).loop in
-    let n = sym c.before.is-written.ensures ∙ not-true c.before.is-written.result c.if1.true in
-    sym (at.inv.2 ∙ differs a.text.now a.form.now at.inv.1 at.i (search rules) n)
+    let at = (at-loop c.before).loop-i in
+    let n = sym c.is_written.ensures ∙ not-true c.is_written.result c.if-not-is_written.true in
+    sym (at.invariant.2 ∙ differs a.text.now a.form.now at.invariant.1 at.i (search rules) n)
 
-loop-again : tie.Need-loop-preserved invariant-loop decreases-loop
+loop-again : tie.Need-loop-i-preserved invariant-loop decreases-loop
 loop-again c =
     let a = (entry (at-loop c.before)).args in
-    let at = (at-loop c.before).loop in
-    let n = sym c.before.is-written.ensures ∙ not-false c.before.is-written.result c.if1.false in
-    (search rules, at.inv.1, at.inv.2 ∙ agrees a.text.now a.form.now at.inv.1 at.i (search rules) n)
+    let at = (at-loop c.before).loop-i in
+    let n = sym c.is_written.ensures ∙ not-false c.is_written.result c.if-not-is_written.false in
+    (search rules, at.invariant.1, at.invariant.2 ∙ agrees a.text.now a.form.now at.invariant.1 at.i (search rules) n)
 
-returns-2 : tie.Need-returns-2 invariant-loop decreases-loop
+returns-2 : tie.Need-returns invariant-loop decreases-loop
 returns-2 c =
     let a = (entry c.before).args in
-    let at = c.before.loop in
-    sym (at.invariant.2 ∙ ended a.text.now a.form.now at.invariant.1 at.i c.loop-test.false)
+    let at = c.loop-i in
+    sym (at.invariant.2 ∙ ended a.text.now a.form.now at.invariant.1 at.i c.loop-i-test.false)
 
-pub is-same-spec : {M : Type 1} → statement M
-is-same-spec =
+pub is_same_spec : {M : Type 1} → statement M
+is_same_spec =
     tie.close (tie.spec invariant-loop decreases-loop
     loop-holds
     (λ c. search rules) (λ c. search rules) (λ c κs. search rules)

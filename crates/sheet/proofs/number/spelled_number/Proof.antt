@@ -8,19 +8,19 @@ use Rattle.sheet.proofs.number.spelled_number.Tie as tie
 
 returns : tie.Need-returns
 returns c =
-    let third = c.before.before in
-    let second = third.before.before in
-    let first = second.before.before in
-    let start = first.before.before.before in
+    let third = c in
+    let second = third in
+    let first = second in
+    let start = first in
     ap₂ (λ (a b : ℕ). a * 10 + b)
     (ap₂ (λ (a b : ℕ). a * 10 + b)
-    (ap₂ (λ (a b : ℕ). a * 10 + b) first.digit-of.ensures.0 second.digit-of2.ensures.0)
-    third.digit-of3.ensures.0)
-    c.digit-of4.ensures.0
+    (ap₂ (λ (a b : ℕ). a * 10 + b) first.digit_of-first.ensures.0 second.digit_of-second.ensures.0)
+    third.digit_of-third.ensures.0)
+    c.digit_of-fourth.ensures.0
     ∙ four_columns start.args.text.now start.requires
 
-pub spelled-number-spec : {M : Type 1} → statement M
-spelled-number-spec =
+pub spelled_number_spec : {M : Type 1} → statement M
+spelled_number_spec =
     tie.close (tie.spec
     (λ c. search rules) (λ c κs. search rules) (λ c. search rules) (λ c κs. search rules) (λ c. search rules)
     (λ c κs. search rules) (λ c. search rules) (λ c κs. search rules) (λ c. search rules) (λ c. search rules)

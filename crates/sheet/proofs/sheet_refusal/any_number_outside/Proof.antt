@@ -12,50 +12,50 @@ use borrow.Author.Rules.{rules}
 use Rattle.sheet.proofs.sheet_refusal.any_number_outside.Statement.{statement}
 use Rattle.sheet.proofs.sheet_refusal.any_number_outside.Tie as tie
 
-abbrev invariant-loop : tie.invariant-loop
+abbrev invariant-loop : tie.invariant-loop-i
 invariant-loop bytes first count low high i₀ i =
     (i ≤ count) × Lines first count bytes × ((j : ℕ) → j < i → outside low high (number_on (first + j) bytes) ≡ false)
 
-abbrev decreases-loop : tie.decreases-loop
+abbrev decreases-loop : tie.decreases-loop-i
 decreases-loop bytes first count low high i₀ i = count - i
 
 -- the loop's head, from the place where a number is tested, and the entry, from the head
-abbrev at-loop : tie.After-is-outside invariant-loop decreases-loop → tie.At-loop invariant-loop decreases-loop
+abbrev at-loop : tie.After-is_outside invariant-loop decreases-loop → tie.At-loop-i invariant-loop decreases-loop
 at-loop c = c.before.before.before.before
 
-abbrev entry : tie.At-loop invariant-loop decreases-loop → tie.Start invariant-loop decreases-loop
+abbrev entry : tie.At-loop-i invariant-loop decreases-loop → tie.Start invariant-loop decreases-loop
 entry c = c.before.before
 
-loop-holds : tie.Need-loop-init invariant-loop decreases-loop
-loop-holds c = (omega arith, c.before.requires, below_none _)
+loop-holds : tie.Need-loop-i-init invariant-loop decreases-loop
+loop-holds c = (omega arith, c.requires, below_none _)
 
 -- what was tested
-tested : (c : tie.After-is-outside invariant-loop decreases-loop) → let a = (entry (at-loop c)).args in
-    outside a.low a.high (number_on (a.first + (at-loop c).loop.i) a.bytes.now) ≡ c.is-outside.result
+tested : (c : tie.After-is_outside invariant-loop decreases-loop) → let a = (entry (at-loop c)).args in
+    outside a.low a.high (number_on (a.first + (at-loop c).loop-i.i) a.bytes.now) ≡ c.is_outside.result
 tested c =
     let a = (entry (at-loop c)).args in
-    sym (c.is-outside.ensures ∙ ap (outside a.low a.high) (c.before.spelled-number.ensures ∙ lent_number _ _))
+    sym (c.is_outside.ensures ∙ ap (outside a.low a.high) (c.spelled_number-v.ensures ∙ lent_number _ _))
 
-returns : tie.Need-returns invariant-loop decreases-loop
+returns : tie.Need-returns-then-is_outside invariant-loop decreases-loop
 returns c =
     let a = (entry (at-loop c.before)).args in
-    let at = (at-loop c.before).loop in
-    sym (number_outside a.low a.high a.first a.count a.bytes.now at.i (search rules) (tested c.before ∙ c.if1.true))
+    let at = (at-loop c.before).loop-i in
+    sym (number_outside a.low a.high a.first a.count a.bytes.now at.i (search rules) (tested c.before ∙ c.if-is_outside.true))
 
-loop-again : tie.Need-loop-preserved invariant-loop decreases-loop
+loop-again : tie.Need-loop-i-preserved invariant-loop decreases-loop
 loop-again c =
-    let at = (at-loop c.before).loop in
-    (search rules, at.inv.1, below_more _ at.i at.inv.2 (tested c.before ∙ c.if1.false))
+    let at = (at-loop c.before).loop-i in
+    (search rules, at.invariant.1, below_more _ at.i at.invariant.2 (tested c.before ∙ c.if-is_outside.false))
 
-returns-2 : tie.Need-returns-2 invariant-loop decreases-loop
+returns-2 : tie.Need-returns invariant-loop decreases-loop
 returns-2 c =
     let a = (entry c.before).args in
-    let at = c.before.loop in
-    let over = c.loop-test.false in
+    let at = c.loop-i in
+    let over = c.loop-i-test.false in
     sym (numbers_inside a.low a.high a.first a.count a.bytes.now (λ j l. at.invariant.2 j (omega arith)))
 
-pub any-number-outside-spec : {M : Type 1} → statement M
-any-number-outside-spec =
+pub any_number_outside_spec : {M : Type 1} → statement M
+any_number_outside_spec =
     tie.close (tie.spec invariant-loop decreases-loop
     loop-holds
     (λ c. search rules) (λ c. search rules) (λ c. search rules) (λ c. search rules) (λ c. search rules)

@@ -10,41 +10,41 @@ use Rattle.sheet.proofs.sheet_refusal.content_refusal.Statement.{statement}
 use Rattle.sheet.proofs.sheet_refusal.content_refusal.Tie as tie
 
 -- the entry, from the place where the sizes are known, and that place, from the one where only the last row is left
-abbrev entry : tie.After-kernel-count → tie.Start
+abbrev entry : tie.After-kernel_count-count → tie.Start
 entry c = c.before.before.before.before.before
 
-abbrev to-sizes : tie.After-first4 → tie.After-kernel-count
+abbrev to-sizes : tie.After-first-r-4 → tie.After-kernel_count-count
 to-sizes c = c.before.before.before.before.before.before
 
 -- the lines that are looked at are there
-lines_of_map : (c : tie.After-kernel-count) → Lines 1 c.before.place-count.result (entry c).args.bytes.now
-lines_of_map c = map_tried _ (entry c).requires c.before.place-count.ensures.0
+lines_of_map : (c : tie.After-kernel_count-count) → Lines 1 c.before.place_count-size.result (entry c).args.bytes.now
+lines_of_map c = map_tried _ (entry c).requires c.place_count-size.ensures.0
 
-lines-of-coefs : tie.Need-any-number-outside-requires-3
+lines-of-coefs : tie.Need-any_number_outside-requires-3
 lines-of-coefs c κs =
     let sizes = to-sizes c in
-    coefs_tried _ (entry sizes).pre sizes.before.place-count.ensures.0 sizes.kernel-count.ensures.0
+    coefs_tried _ (entry sizes).requires sizes.place_count-size.ensures.0 sizes.kernel_count-count.ensures.0
 
 returns : tie.Need-returns
 returns c5 =
-    let c4 = c5.before.before in
-    let s = entry (to-sizes c4) in
+    let c4 = c5 in
+    let s = entry (to-sizes c4.before.before) in
     let a = s.args in
-    let c3 = c4.before.before in
-    let c2 = c3.before.before in
-    let c1 = c2.before in
-    content_tried a.bytes.now a.map.now a.coefs.now a.n s.pre (walked [] _ tt (simp (
-      tried _ _ c5.first5.ensures c5.before.any-number-outside3.ensures,
-      tried _ _ c4.first4.ensures (ap not c4.before.any-number-outside2.ensures),
-      tried _ _ c3.first3.ensures c3.before.any-number-outside.ensures,
-      c2.first2.ensures,
-      c1.first.ensures,
-      c1.before.kernel-count.ensures.0,
-      c1.before.before.place-count.ensures.0,
+    let c3 = c4 in
+    let c2 = c3 in
+    let c1 = c2 in
+    content_tried a.bytes.now a.map.now a.coefs.now a.n s.requires (walked [] _ tt (simp (
+      tried _ _ c5.first.ensures c5.any_number_outside-3.ensures,
+      tried _ _ c4.first-r-4.ensures (ap not c4.any_number_outside-2.ensures),
+      tried _ _ c3.first-r-3.ensures c3.any_number_outside.ensures,
+      c2.first-r-2.ensures,
+      c1.first-r.ensures,
+      c1.kernel_count-count.ensures.0,
+      c1.place_count-size.ensures.0,
     )))
 
-pub content-refusal-spec : {M : Type 1} → statement M
-content-refusal-spec =
+pub content_refusal_spec : {M : Type 1} → statement M
+content_refusal_spec =
     tie.close (tie.spec
     (λ c κs. tt) (λ c κs. tt)
     (λ c κs. tt)

@@ -13,42 +13,42 @@ use Rattle.sheet.proofs.sheet_refusal.form_refusal.Statement.{statement}
 use Rattle.sheet.proofs.sheet_refusal.form_refusal.Tie as tie
 
 -- the entry, from the place where there are five bytes, and that place, from the one where the sizes are known
-abbrev entry : tie.Else1 → tie.Start
+abbrev entry : tie.Else-bytes-lt5 → tie.Start
 entry c = c.before.before
 
-abbrev to-five : tie.After-kernel-count → tie.Else1
+abbrev to-five : tie.After-kernel_count → tie.Else-bytes-lt5
 to-five c = c.before.before.before
 
-returns : tie.Need-returns
-returns c = form_short c.before.before.args.bytes.now c.if1.true
+returns : tie.Need-returns-then-bytes-lt5
+returns c = form_short c.args.bytes.now c.if-bytes-lt5.true
 
-slice-aggregate-is-line : tie.Need-slice-aggregate-is-line
+slice-aggregate-is-line : tie.Need-slice_bounds-is_line-end
 slice-aggregate-is-line c =
-    let five = to-five c.before in
-    sym (length-take-le 5 (entry five).args.bytes.now five.if1.left)
+    let five = to-five c in
+    sym (length-take-le 5 (entry five).args.bytes.now five.if-bytes-lt5.false)
 
-returns-2 : tie.Need-returns-2
+returns-2 : tie.Need-returns
 unfolding unequal bad_line part
 returns-2 c4 =
-    let c3 = c4.before.before in
-    let c2 = c3.before in
-    let c1 = c2.before.before in
-    let sizes = c1.before.before.before in
-    let number = sizes.before.before in
-    let five = to-five sizes in
+    let c3 = c4 in
+    let c2 = c3 in
+    let c1 = c2 in
+    let sizes = c1 in
+    let number = sizes in
+    let five = to-five sizes.before.before.before.before.before.before.before in
     let bytes = (entry five).args.bytes.now in
-    form_tried bytes five.if1.left (walked [] _ tt (simp (
-      tried _ _ c4.first4.ensures c4.before.any-bad-line.ensures,
-      c3.first3.ensures,
-      tried _ _ c2.first2.ensures c2.before.is-size-outside.ensures,
-      tried _ _ c1.first.ensures (ap not c1.before.is_line.ensures),
-      sizes.kernel-count.ensures.0,
-      sizes.before.place-count.ensures.0,
-      number.spelled-number.ensures ∙ first_number bytes,
+    form_tried bytes five.if-bytes-lt5.false (walked [] _ tt (simp (
+      tried _ _ c4.first.ensures c4.any_bad_line.ensures,
+      c3.first-r-3.ensures,
+      tried _ _ c2.first-r-2.ensures c2.is_size_outside.ensures,
+      tried _ _ c1.first-r.ensures (ap not c1.is_line.ensures),
+      sizes.kernel_count.ensures.0,
+      sizes.place_count.ensures.0,
+      number.spelled_number-n.ensures ∙ first_number bytes,
     )))
 
-pub form-refusal-spec : {M : Type 1} → statement M
-form-refusal-spec =
+pub form_refusal_spec : {M : Type 1} → statement M
+form_refusal_spec =
     tie.close (tie.spec
     returns
     (λ c κs. search rules) (λ c. search rules)
