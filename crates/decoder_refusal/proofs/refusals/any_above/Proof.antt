@@ -12,8 +12,8 @@ greatest-requires c κs = search rules
 
 returns : tie.Need-returns
 returns c =
-    let a = c.before.before.args in
+    let a = c.args in
     ap (λ (m : ℕ). ltb a.most m) c.greatest.ensures ∙ greatest_above a.most a.frame.now
 
-pub any-above-spec : {M : Type 1} → statement M
-any-above-spec = tie.close (tie.spec greatest-requires returns)
+pub any_above_spec : {M : Type 1} → statement M
+any_above_spec = tie.close (tie.spec greatest-requires returns)

@@ -12,18 +12,18 @@ returns : tie.Need-returns
 returns c3 =
     let s : tie.Start = search rules in
     let a = s.args in
-    let c2 = c3.before.before.before in
-    let c1 = c2.before.before in
+    let c2 = c3 in
+    let c1 = c2 in
     penalties_tried a.map.now a.coefs.now (settings_of a.qc a.qm a.candidates) a.frame.now
     (walked (call 3 ∷ call 3 ∷ call 2 ∷ []) _ tt (simp (
-      called _ c3.or-else2.ensures c3.before.frame-refusal.ensures,
-      c3.before.before.largest.ensures,
-      called _ c2.or_else.ensures c2.before.code-refusal.ensures,
-      c1.settings-refusal.ensures,
+      called _ c3.or_else.ensures c3.frame_refusal.ensures,
+      c3.largest.ensures,
+      called _ c2.or_else-r.ensures c2.code_refusal.ensures,
+      c1.settings_refusal-r.ensures,
     )))
 
-pub content-refusal-spec : {M : Type 1} → statement M
-content-refusal-spec =
+pub content_refusal_spec : {M : Type 1} → statement M
+content_refusal_spec =
     tie.close
     (tie.spec
     (λ c κs. tt) (λ c κs. tt) (λ c κs. tt) (λ c κs. tt) (λ c κs. tt) (λ c κs. tt)

@@ -9,43 +9,43 @@ use Rattle.decoder_refusal.proofs.RefusalLaws.{Kept, keep_new, keep_old, keep_al
 use Rattle.decoder_refusal.proofs.refusals.greatest.Statement.{statement}
 use Rattle.decoder_refusal.proofs.refusals.greatest.Tie as tie
 
-abbrev invariant-loop : tie.invariant-loop
+abbrev invariant-loop : tie.invariant-loop-i
 invariant-loop frame m₀ i₀ m i = (i ≤ length frame) × Kept frame m i
 
-abbrev decreases-loop : tie.decreases-loop
+abbrev decreases-loop : tie.decreases-loop-i
 decreases-loop frame m₀ i₀ m i = length frame - i
 
-loop-holds : tie.Need-loop-init invariant-loop decreases-loop
+loop-holds : tie.Need-loop-i-init invariant-loop decreases-loop
 loop-holds c = (omega arith, omega arith)
 
-mul-x : tie.Need-overflow-mul-x invariant-loop decreases-loop
+mul-x : tie.Need-offset_bounds-frame-i invariant-loop decreases-loop
 mul-x c = search rules
 
-shared-slice-read-x : tie.Need-shared-slice-read-x invariant-loop decreases-loop
+shared-slice-read-x : tie.Need-bounds-frame-i invariant-loop decreases-loop
 shared-slice-read-x c = search rules
 
-add-i : tie.Need-overflow-add-i invariant-loop decreases-loop
+add-i : tie.Need-overflow_add-i invariant-loop decreases-loop
 add-i c = search rules
 
-loop-less : tie.Need-loop-smaller invariant-loop decreases-loop
+loop-less : tie.Need-loop-i-smaller invariant-loop decreases-loop
 loop-less c = search rules
 
-loop-again : tie.Need-loop-preserved invariant-loop decreases-loop
+loop-again : tie.Need-loop-i-preserved invariant-loop decreases-loop
 loop-again c =
-    let head = c.before.before.before in
-    let frame = head.before.args.frame.now in
-    let at = head.loop in
+    let head = c in
+    let frame = head.args.frame.now in
+    let at = head.loop-i in
     let there : at.i < length frame = omega arith in
     ⊎_elim
-    (λ w. (omega arith, subst (λ (m : ℕ). Kept frame m (at.i + 1)) (sym w.1) (keep_new frame at.m at.i at.invariant.1 there w.0.taken)))
-    (λ w. (omega arith, subst (λ (m : ℕ). Kept frame m (at.i + 1)) (sym w.1) (keep_old frame at.m at.i at.invariant.1 there w.0.left)))
-    c.if1.branch
+    (λ w. (omega arith, subst (λ (m : ℕ). Kept frame m (at.i + 1)) (sym w.m-is) (keep_new frame at.m at.i at.invariant.1 there w.if-m-x.true)))
+    (λ w. (omega arith, subst (λ (m : ℕ). Kept frame m (at.i + 1)) (sym w.m-is) (keep_old frame at.m at.i at.invariant.1 there w.if-m-x.false)))
+    c.if-m-x.branch-raw
 
 returns : tie.Need-returns invariant-loop decreases-loop
-returns c = keep_all _ _ _ c.before.loop.invariant.1 c.loop-test.false
+returns c = keep_all _ _ _ c.loop-i.invariant.1 c.loop-i-test.false
 
-pub greatest-spec : {M : Type 1} → statement M
-greatest-spec =
+pub greatest_spec : {M : Type 1} → statement M
+greatest_spec =
     tie.close
     (tie.spec
     invariant-loop

@@ -6,17 +6,17 @@ use Rattle.decoder_refusal.proofs.refusals.settings_refusal.Tie as tie
 
 returns : tie.Need-returns
 returns c3 =
-    let c2 = c3.before in
-    let c1 = c2.before in
-    let number = c1.before in
+    let c2 = c3 in
+    let c1 = c2 in
+    let number = c1 in
     walked (rows 3 ∷ []) _ tt (simp (
-      tried _ _ c3.first3.ensures number.is-outside3.ensures,
-      tried _ _ c2.first2.ensures number.before.is-outside2.ensures,
-      tried _ _ c1.first.ensures number.before.before.is-outside.ensures,
+      tried _ _ c3.first.ensures number.is_outside-number.ensures,
+      tried _ _ c2.first-r-2.ensures number.is_outside-high.ensures,
+      tried _ _ c1.first-r.ensures number.is_outside-low.ensures,
     ))
 
-pub settings-refusal-spec : {M : Type 1} → statement M
-settings-refusal-spec =
+pub settings_refusal_spec : {M : Type 1} → statement M
+settings_refusal_spec =
     tie.close
     (tie.spec
     (λ c κs. tt) (λ c κs. tt) (λ c κs. tt)

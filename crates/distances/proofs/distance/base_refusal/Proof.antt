@@ -7,7 +7,7 @@ use Rattle.distances.proofs.distance.base_refusal.Tie as tie
 
 returns : tie.Need-returns
 unfolding base_refusal
-returns c = walked [] _ tt (simp (c.first.ensures, c.before.turned.ensures))
+returns c = walked [] _ tt (simp (c.first.ensures, c.turned.ensures))
 
-pub base-refusal-spec : {M : Type 1} → statement M
-base-refusal-spec = tie.close (tie.spec (λ c κs. tt) (λ c κs. tt) returns)
+pub base_refusal_spec : {M : Type 1} → statement M
+base_refusal_spec = tie.close (tie.spec (λ c κs. tt) (λ c κs. tt) returns)

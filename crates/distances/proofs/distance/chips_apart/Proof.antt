@@ -10,9 +10,9 @@ use Rattle.distances.proofs.distance.chips_apart.Tie as tie
 
 returns : tie.Need-returns
 returns c =
-    let a = c.before.args in
+    let a = c.args in
     ap (λ (x : ℕ). ones (bit_xor a.base x)) c.turned.ensures
-    ∙ ones_distance a.base a.s c.before.ranges.base.fits
+    ∙ ones_distance a.base a.s c.ranges.base.fits
 
-pub chips-apart-spec : {M : Type 1} → statement M
-chips-apart-spec = tie.close (tie.spec (λ c κs. search rules) returns)
+pub chips_apart_spec : {M : Type 1} → statement M
+chips_apart_spec = tie.close (tie.spec (λ c κs. search rules) returns)

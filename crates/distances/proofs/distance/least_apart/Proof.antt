@@ -14,36 +14,36 @@ use Rattle.distances.proofs.distance.least_apart.Tie as tie
 abbrev distance_from1 : ℕ → ℕ → ℕ
 distance_from1 base i = shift_distance base (i + 1)
 
-abbrev invariant-loop : tie.invariant-loop
+abbrev invariant-loop : tie.invariant-loop-i
 invariant-loop base least₀ i₀ least i = (i ≤ 63) × (least ≡ least_to (i - 1) (distance_from1 base))
 
-abbrev decreases-loop : tie.decreases-loop
+abbrev decreases-loop : tie.decreases-loop-i
 decreases-loop base least₀ i₀ least i = 63 - i
 
-loop-holds : tie.Need-loop-init invariant-loop decreases-loop
+loop-holds : tie.Need-loop-i-init invariant-loop decreases-loop
 unfolding least_to
-loop-holds c = (omega arith, c.chips-apart.ensures)
+loop-holds c = (omega arith, c.chips_apart-least.ensures)
 
-loop-again : tie.Need-loop-preserved invariant-loop decreases-loop
+loop-again : tie.Need-loop-i-preserved invariant-loop decreases-loop
 loop-again c =
-    let base = c.before.before.before.before.before.args.base in
-    let at = c.before.before.before.loop in
-    let e = c.before.chips-apart2.ensures in
+    let base = c.args.base in
+    let at = c.loop-i in
+    let e = c.chips_apart-chips.ensures in
     let m = least_next at.i at.least (distance_from1 base) at.invariant.1 in
     ⊎_elim
-    (λ w. let t = w.0.taken in (omega arith, w.1 ∙ e ∙ m.0 (omega arith)))
-    (λ w. let t = w.0.left in (omega arith, w.1 ∙ m.1 (omega arith)))
-    c.if1.branch
+    (λ w. let t = w.if-chips-least.true in (omega arith, w.least-is ∙ e ∙ m.0 (omega arith)))
+    (λ w. let t = w.if-chips-least.false in (omega arith, w.least-is ∙ m.1 (omega arith)))
+    c.if-chips-least.branch-raw
 
 returns : tie.Need-returns invariant-loop decreases-loop
 unfolding least_distance
 returns c =
-    let at = c.before.loop in
+    let at = c.loop-i in
     let e : at.i - 1 ≡ 62 = omega arith in
-    at.invariant.1 ∙ ap (λ (k : ℕ). least_to k (distance_from1 c.before.before.before.args.base)) e
+    at.invariant.1 ∙ ap (λ (k : ℕ). least_to k (distance_from1 c.args.base)) e
 
-pub least-apart-spec : {M : Type 1} → statement M
-least-apart-spec =
+pub least_apart_spec : {M : Type 1} → statement M
+least_apart_spec =
     tie.close (tie.spec invariant-loop decreases-loop
     (λ c κs. search rules)
     loop-holds

@@ -7,25 +7,25 @@ use borrow.Author.Rules.{rules}
 use Rattle.distances.proofs.distance.least_distance.Statement.{statement}
 use Rattle.distances.proofs.distance.least_distance.Tie as tie
 
-returns : tie.Need-returns
+returns : tie.Need-returns-then-refused-ne0
 unfolding returned least_answer
 returns c =
-    let entry = c.before.before in
+    let entry = c in
     record {
-      answer_is = answered_number _ c.before.base-refusal.ensures c.if1.true;
+      answer_is = answered_number _ c.base_refusal-refused.ensures c.if-refused-ne0.true;
       least = least_is entry.args.base entry.ranges.base.fits;
     }
 
-returns-2 : tie.Need-returns-2
+returns-2 : tie.Need-returns
 unfolding returned least_answer
 returns-2 c =
-    let called = c.before.before in
-    let entry = called.before in
-    let z = sym called.base-refusal.ensures ∙ c.before.if1.false in
+    let called = c in
+    let entry = called in
+    let z = sym called.base_refusal-refused.ensures ∙ c.if-refused-ne0.false in
     record {
-      answer_is = answered_value _ z c.least-apart.ensures;
+      answer_is = answered_value _ z c.least_apart.ensures;
       least = least_is entry.args.base entry.ranges.base.fits;
     }
 
-pub least-distance-spec : {M : Type 1} → statement M
-least-distance-spec = tie.close (tie.spec (λ c κs. search rules) returns (λ c κs. search rules) returns-2)
+pub least_distance_spec : {M : Type 1} → statement M
+least_distance_spec = tie.close (tie.spec (λ c κs. search rules) returns (λ c κs. search rules) returns-2)

@@ -7,28 +7,28 @@ use borrow.Author.Rules.{rules}
 use Rattle.distances.proofs.distance.shift_distance.Statement.{statement}
 use Rattle.distances.proofs.distance.shift_distance.Tie as tie
 
-returns : tie.Need-returns
+returns : tie.Need-returns-then-refused-ne0
 unfolding returned distance_answer
 returns c =
-    let a = c.before.before.args in
+    let a = c.args in
     let e = distance_even a.base a.s in
     record {
-      answer_is = answered_number _ c.before.base-refusal.ensures c.if1.true;
+      answer_is = answered_number _ c.base_refusal-refused.ensures c.if-refused-ne0.true;
       half = e.0;
       even = e.1;
     }
 
-returns-2 : tie.Need-returns-2
+returns-2 : tie.Need-returns
 unfolding returned distance_answer
 returns-2 c =
-    let called = c.before.before in
-    let e = distance_even called.before.args.base called.before.args.s in
-    let z = sym called.base-refusal.ensures ∙ c.before.if1.false in
+    let called = c in
+    let e = distance_even called.args.base called.args.s in
+    let z = sym called.base_refusal-refused.ensures ∙ c.if-refused-ne0.false in
     record {
-      answer_is = answered_value _ z c.chips-apart.ensures;
+      answer_is = answered_value _ z c.chips_apart.ensures;
       half = e.0;
       even = e.1;
     }
 
-pub shift-distance-spec : {M : Type 1} → statement M
-shift-distance-spec = tie.close (tie.spec (λ c κs. search rules) returns (λ c κs. search rules) returns-2)
+pub shift_distance_spec : {M : Type 1} → statement M
+shift_distance_spec = tie.close (tie.spec (λ c κs. search rules) returns (λ c κs. search rules) returns-2)

@@ -10,35 +10,35 @@ use Rattle.distances.proofs.premise.premise_holds.Statement.{statement}
 use Rattle.distances.proofs.premise.premise_holds.Tie as tie
 
 -- the entry, from the place where nothing is refused
-abbrev entry : tie.Else1 → tie.Start
+abbrev entry : tie.Else-refused-ne0 → tie.Start
 entry c = c.before.before
 
 -- there the input is accepted
-none_fits : (c : tie.Else1) → premise_refusal (entry c).args.base (entry c).args.top (entry c).args.bottom ≡ 0
-none_fits c = sym c.before.premise-refusal.ensures ∙ c.if1.false
+none_fits : (c : tie.Else-refused-ne0) → premise_refusal c.args.base c.args.top c.args.bottom ≡ 0
+none_fits c = sym c.premise_refusal-refused.ensures ∙ c.if-refused-ne0.false
 
 -- the value of an answer that is no where the test holds
 abbrev value : Bool → ℕ
 value fails = cond fails 0 1
 
-returns : tie.Need-returns
+returns : tie.Need-returns-then-refused-ne0
 unfolding returned premise_answer
-returns c = premise_answered _ _ _ _ _ (answered_number _ c.before.premise-refusal.ensures c.if1.true)
+returns c = premise_answered _ _ _ _ _ (answered_number _ c.premise_refusal-refused.ensures c.if-refused-ne0.true)
 
-premise-fails-requires : tie.Need-premise-fails-requires
+premise-fails-requires : tie.Need-premise_fails-requires
 premise-fails-requires c κs = (gain _ _ _ (none_fits c)).0
 
-returns-2 : tie.Need-returns-2
+returns-2 : tie.Need-returns-then-premise_fails
 unfolding returned premise_answer
 returns-2 c =
-    let e = sym c.before.premise_fails.ensures ∙ c.if2.true in
+    let e = sym c.premise_fails.ensures ∙ c.if-premise_fails.true in
     premise_answered _ _ _ _ _ (answered_value _ (none_fits c.before.before) (sym (ap value e)))
 
-returns-3 : tie.Need-returns-3
+returns-3 : tie.Need-returns
 unfolding returned premise_answer
 returns-3 c =
-    let e = sym c.before.premise_fails.ensures ∙ c.if2.false in
+    let e = sym c.premise_fails.ensures ∙ c.if-premise_fails.false in
     premise_answered _ _ _ _ _ (answered_value _ (none_fits c.before.before) (sym (ap value e)))
 
-pub premise-holds-spec : {M : Type 1} → statement M
-premise-holds-spec = tie.close (tie.spec (λ c κs. search rules) returns premise-fails-requires returns-2 returns-3)
+pub premise_holds_spec : {M : Type 1} → statement M
+premise_holds_spec = tie.close (tie.spec (λ c κs. search rules) returns premise-fails-requires returns-2 returns-3)

@@ -9,13 +9,13 @@ use Rattle.distances.proofs.premise.premise_refusal.Tie as tie
 returns : tie.Need-returns
 unfolding base_refusal premise_refusal
 returns c3 =
-    let c2 = c3.before.before in
+    let c2 = c3 in
     walked (call 1 ∷ []) _ tt (simp (
-      tried _ _ c3.first2.ensures c3.before.is-outside2.ensures,
-      tried _ _ c2.first.ensures c2.before.is-outside.ensures,
-      c2.before.before.base-refusal.ensures,
+      tried _ _ c3.first.ensures c3.is_outside-2.ensures,
+      tried _ _ c2.first-r.ensures c2.is_outside.ensures,
+      c2.base_refusal-r.ensures,
     ))
 
-pub premise-refusal-spec : {M : Type 1} → statement M
-premise-refusal-spec =
+pub premise_refusal_spec : {M : Type 1} → statement M
+premise_refusal_spec =
     tie.close (tie.spec (λ c κs. tt) (λ c κs. tt) (λ c κs. tt) (λ c κs. tt) (λ c κs. tt) returns)

@@ -11,9 +11,9 @@ returns : tie.Need-returns
 unfolding unequal base_refusal shifts_refusal
 returns c =
     walked (rows 1 ∷ call 1 ∷ []) _ tt (simp (
-      called _ c.or_else.ensures c.before.base-refusal.ensures,
-      c.before.before.first.ensures,
+      called _ c.or_else.ensures c.base_refusal.ensures,
+      c.first-r.ensures,
     ))
 
-pub shifts-refusal-spec : {M : Type 1} → statement M
-shifts-refusal-spec = tie.close (tie.spec (λ c κs. tt) (λ c κs. tt) (λ c κs. tt) returns)
+pub shifts_refusal_spec : {M : Type 1} → statement M
+shifts_refusal_spec = tie.close (tie.spec (λ c κs. tt) (λ c κs. tt) (λ c κs. tt) returns)

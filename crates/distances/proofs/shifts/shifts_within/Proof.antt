@@ -10,40 +10,40 @@ use Rattle.distances.proofs.shifts.shifts_within.Statement.{statement}
 use Rattle.distances.proofs.shifts.shifts_within.Tie as tie
 
 -- the entry, from the place where nothing is refused
-abbrev entry : tie.Else1 → tie.Start
-entry c = c.before.before.before.before
+abbrev entry : tie.Else-refused-ne0 → tie.Start
+entry c = c.before.before.before
 
 -- there the input is accepted
-none_fits : (c : tie.Else1) → shifts_refusal (entry c).args.base (entry c).args.shifts.now ≡ 0
-none_fits c = sym c.before.shifts-refusal.ensures ∙ c.if1.false
+none_fits : (c : tie.Else-refused-ne0) → shifts_refusal c.args.base c.args.shifts.now ≡ 0
+none_fits c = sym c.shifts_refusal-refused.ensures ∙ c.if-refused-ne0.false
 
-returns : tie.Need-returns
+returns : tie.Need-returns-then-refused-ne0
 unfolding returned shifts_answer shifts_buffer
 returns c =
-    let e = c.before.shifts-refusal.ensures in
-    let refused = c.if1.true in
+    let e = c.shifts_refusal-refused.ensures in
+    let refused = c.if-refused-ne0.true in
     record {
       answer_is = answered_number _ e refused;
       buffer_is = sym (when_refused _ _ _ (λ z. refused (e ∙ z)));
       list = λ z. absurd (refused (e ∙ z));
     }
 
-write-shifts-requires : tie.Need-write-shifts-requires
+write-shifts-requires : tie.Need-write_shifts-requires
 write-shifts-requires c κs = sixty_three _ _ (none_fits c.before)
 
-returns-2 : tie.Need-returns-2
+returns-2 : tie.Need-returns
 unfolding returned shifts_answer shifts_buffer
 returns-2 c =
     let z = none_fits c.before.before.before.before in
-    let written = c.before.before.write-shifts.ensures in
+    let written = c.write_shifts.ensures in
     record {
       answer_is = answered_value _ z written.0;
       buffer_is = written.1 ∙ sym (when_accepted _ _ _ z);
       list = λ y. near_list _ _ _ written.1;
     }
 
-pub shifts-within-spec : {M : Type 1} → statement M
-shifts-within-spec =
+pub shifts_within_spec : {M : Type 1} → statement M
+shifts_within_spec =
     tie.close (tie.spec
     (λ c κs. search rules) (λ c. search rules)
     returns

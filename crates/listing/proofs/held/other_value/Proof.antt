@@ -9,16 +9,16 @@ use borrow.Author.Rules.{rules}
 use Rattle.listing.proofs.held.other_value.Statement.{statement}
 use Rattle.listing.proofs.held.other_value.Tie as tie
 
-add-result : tie.Need-overflow-add-result
+add-result : tie.Need-overflow_add-result
 add-result c = search rules
 
-returns : tie.Need-returns
+returns : tie.Need-returns-then-j-symbol
 unfolding other_value
-returns c = let a = c.before.args in sym (ap (λ (t : Bool). cond t a.j (suc a.j)) (lt-ltb a.j a.symbol c.if1.true))
+returns c = let a = c.args in sym (ap (λ (t : Bool). cond t a.j (suc a.j)) (lt-ltb a.j a.symbol c.if-j-symbol.true))
 
-returns-2 : tie.Need-returns-2
+returns-2 : tie.Need-returns-else-j-symbol
 unfolding other_value
-returns-2 c = let a = c.before.args in add-one a.j ∙ sym (ap (λ (t : Bool). cond t a.j (suc a.j)) (le-ltb a.j a.symbol c.if1.false))
+returns-2 c = let a = c.args in add-one a.j ∙ sym (ap (λ (t : Bool). cond t a.j (suc a.j)) (le-ltb a.j a.symbol c.if-j-symbol.false))
 
-pub other-value-spec : {M : Type 1} → statement M
-other-value-spec = tie.close (tie.spec add-result returns returns-2)
+pub other_value_spec : {M : Type 1} → statement M
+other_value_spec = tie.close (tie.spec add-result returns returns-2)

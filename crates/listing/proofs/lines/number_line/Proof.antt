@@ -5,10 +5,10 @@ use Rattle.listing.proofs.lines.number_line.Statement.{statement}
 use Rattle.listing.proofs.lines.number_line.Tie as tie
 
 returns : tie.Need-returns
-returns c = one_field c.before.before.before.args.v _ c.before.write-number.ensures
+returns c = one_field c.args.v _ c.write_number.ensures
 
-pub number-line-spec : {M : Type 1} → statement M
-number-line-spec =
+pub number_line_spec : {M : Type 1} → statement M
+number_line_spec =
     tie.close (tie.spec
     (λ c. search rules) (λ c. search rules) (λ c κs. search rules) (λ c. search rules)
     returns)

@@ -17,11 +17,11 @@ returns c = line_refused _ _ (row_fits 2 _ (unequal_true _ 64 c.if-llrs-ne64.tru
 returns-2 : tie.Need-returns-then-not-is_line
 returns-2 c =
     line_refused _ _
-    (row_passed 2 _ (equal_false _ 64 c.if-llrs-ne64.false) ∙ row_fits 12 _ (ap not (sym c.is_line.ensures) ∙ c.if-not-is_line.true)) (λ q. absurd (omega arith))
+    (row_passed 2 _ (equal_false _ 64 c.if-llrs-ne64.false) ∙ row_fits 12 _ (ap not (sym c.is_line.ensures) ∙ ap not c.if-not-is_line.true)) (λ q. absurd (omega arith))
 
 write-llrs-requires : tie.Need-write_llrs-requires
 write-llrs-requires c κs = record {
-  of_line_form = sym c.is_line.ensures ∙ not-false c.is_line.result c.if-not-is_line.false;
+  of_line_form = sym c.is_line.ensures ∙ c.if-not-is_line.false;
   long = c.if-llrs-ne64.false;
 }
 
@@ -31,7 +31,7 @@ returns-3 c =
     let written = c in
     let formed = written in
     line_accepted _ _
-    (none_accepted _ (equal_false _ 64 formed.if-llrs-ne64.false, (ap not (sym formed.is_line.ensures) ∙ formed.if-not-is_line.false, tt)))
+    (none_accepted _ (equal_false _ 64 formed.if-llrs-ne64.false, (ap not (sym formed.is_line.ensures) ∙ ap not formed.if-not-is_line.false, tt)))
     written.write_llrs.ensures
 
 pub read_frame_line_spec : {M : Type 1} → statement M

@@ -22,7 +22,7 @@ decreases-loop line llrs₀ i₀ llrs i = 64 - i
 loop-holds : tie.Need-loop-i-init invariant-loop decreases-loop
 loop-holds c =
     let g = c.requires in
-    (g.is_line, line_long 4 64 c.args.line.now g.is_line, fill_none g.long)
+    (g.of_line_form, line_long 4 64 c.args.line.now g.of_line_form, fill_none g.long)
 
 -- the loop's head, from the place where a number is read, and the entry, from the head
 abbrev at-loop : tie.After-spelled_number invariant-loop decreases-loop → tie.At-loop-i invariant-loop decreases-loop

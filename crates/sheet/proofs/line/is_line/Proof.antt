@@ -53,7 +53,7 @@ returns-3 : tie.Need-returns-then-not-is_number invariant-loop decreases-loop
 returns-3 c =
     let a = (entry (at-loop c.before)).args in
     let at = (at-loop c.before).loop-i in
-    let n = tested c.before ∙ not-true c.is_number.result c.if-not-is_number.true in
+    let n = tested c.before ∙ c.if-not-is_number.true in
     sym (refuted (is_line 4 a.fields a.bytes.now) (λ e.
     let l = line_field 4 a.fields a.bytes.now e at.i (search rules) in
     true_false (sym l ∙ n)))
@@ -61,7 +61,7 @@ returns-3 c =
 loop-again : tie.Need-loop-i-preserved invariant-loop decreases-loop
 loop-again c =
     let at = (at-loop c.before).loop-i in
-    let n = tested c.before ∙ not-false c.is_number.result c.if-not-is_number.false in
+    let n = tested c.before ∙ c.if-not-is_number.false in
     (search rules, at.invariant.1, below_more _ at.i at.invariant.2 n)
 
 returns-4 : tie.Need-returns invariant-loop decreases-loop

@@ -30,14 +30,14 @@ returns : tie.Need-returns-then-not-is_written invariant-loop decreases-loop
 returns c =
     let a = (entry (at-loop c.before)).args in
     let at = (at-loop c.before).loop-i in
-    let n = sym c.is_written.ensures ∙ not-true c.is_written.result c.if-not-is_written.true in
+    let n = sym c.is_written.ensures ∙ c.if-not-is_written.true in
     sym (at.invariant.2 ∙ differs a.text.now a.form.now at.invariant.1 at.i (search rules) n)
 
 loop-again : tie.Need-loop-i-preserved invariant-loop decreases-loop
 loop-again c =
     let a = (entry (at-loop c.before)).args in
     let at = (at-loop c.before).loop-i in
-    let n = sym c.is_written.ensures ∙ not-false c.is_written.result c.if-not-is_written.false in
+    let n = sym c.is_written.ensures ∙ c.if-not-is_written.false in
     (search rules, at.invariant.1, at.invariant.2 ∙ agrees a.text.now a.form.now at.invariant.1 at.i (search rules) n)
 
 returns-2 : tie.Need-returns invariant-loop decreases-loop

@@ -42,12 +42,12 @@ returns : tie.Need-returns-then-not-is_line invariant-loop decreases-loop
 returns c =
     let a = (entry (at-loop c.before)).args in
     let at = (at-loop c.before).loop-i in
-    sym (any_there (λ i. bad_line i a.bytes.now) (length a.bytes.now / 5) at.i (search rules) (tested c.before ∙ c.if-not-is_line.true))
+    sym (any_there (λ i. bad_line i a.bytes.now) (length a.bytes.now / 5) at.i (search rules) (tested c.before ∙ ap not c.if-not-is_line.true))
 
 loop-again : tie.Need-loop-i-preserved invariant-loop decreases-loop
 loop-again c =
     let at = (at-loop c.before).loop-i in
-    (search rules, refl, below_more _ at.i at.invariant.2 (tested c.before ∙ c.if-not-is_line.false))
+    (search rules, refl, below_more _ at.i at.invariant.2 (tested c.before ∙ ap not c.if-not-is_line.false))
 
 returns-2 : tie.Need-returns invariant-loop decreases-loop
 returns-2 c =
