@@ -6,8 +6,8 @@ use Rattle.refusal.proofs.WalkLaws.{walked, call}
 use Rattle.polar_code.specs.Code.{code_of}
 use Rattle.decoder_refusal.specs.Refusals.{lent_of}
 use Rattle.decoder_refusal.proofs.RefusalLaws.{buffers_tried}
-use Rattle.decoder_refusal.proofs.refusals.size_refusal-r.Statement.{statement}
-use Rattle.decoder_refusal.proofs.refusals.size_refusal-r.Tie as tie
+use Rattle.decoder_refusal.proofs.refusals.size_refusal.Statement.{statement}
+use Rattle.decoder_refusal.proofs.refusals.size_refusal.Tie as tie
 
 returns : tie.Need-returns
 unfolding unequal
