@@ -34,7 +34,7 @@ other c = c.least_other-other.result
 
 -- the array after the first number
 abbrev first : tie.After-write_number → List ℕ
-first c = c.write_number.new.1.0 ++ replicate 16 0
+first c = c.write_number.new.out ++ replicate 16 0
 
 first_is : (c : tie.After-write_number) → first c ≡ field 5 c.args.place ++ replicate 16 0
 first_is c = ap (λ (xs : List ℕ). xs ++ replicate 16 0) c.write_number.ensures
@@ -44,7 +44,7 @@ first_long c = ap length (first_is c) ∙ first_size c.args.place 0 0 0
 
 -- after the second
 abbrev second : tie.After-write_number-2 → List ℕ
-second c = put_mid 5 5 (first (to_first c)) c.write_number-2.new.1.0
+second c = put_mid 5 5 (first (to_first c)) c.write_number-2.new.out
 
 second_is : (c : tie.After-write_number-2) → let a = c.args in
     second c ≡ put_mid 5 5 (field 5 a.place ++ replicate 16 0) (field 5 a.symbol)
@@ -58,7 +58,7 @@ second_long c = let a = c.args in ap length (second_is c) ∙ second_size a.plac
 
 -- after the third
 abbrev third : tie.After-write_number-3 → List ℕ
-third c = put_mid 10 5 (second (to_second c)) c.write_number-3.new.1.0
+third c = put_mid 10 5 (second (to_second c)) c.write_number-3.new.out
 
 third_is : (c : tie.After-write_number-3) → let one = to_first (to_second c) in let a = one.args in
     third c ≡ put_mid 10 5 (put_mid 5 5 (field 5 a.place ++ replicate 16 0) (field 5 a.symbol)) (field 5 (held one))
@@ -74,7 +74,7 @@ third_long c =
 
 -- after the fourth
 fourth_is : (c : tie.After-write_number-4) → let three = to-third c in let one = to_first (to_second three) in let a = one.args in
-    put_mid 15 5 (third three) c.write_number-4.new.1.0
+    put_mid 15 5 (third three) c.write_number-4.new.out
     ≡ put_mid 15 5 (put_mid 10 5 (put_mid 5 5 (field 5 a.place ++ replicate 16 0) (field 5 a.symbol)) (field 5 (held one))) (field 5 (other one))
 fourth_is c =
     let three = to-third c in
