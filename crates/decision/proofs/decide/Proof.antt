@@ -6,19 +6,19 @@ use Rattle.scms.specs.Decision.{decision}
 use Rattle.decision.proofs.decide.Statement.{statement}
 use Rattle.decision.proofs.decide.Tie as tie
 
-returns : tie.Need-returns
+returns : tie.Need-returns-in-Message
 unfolding decision
 returns c =
-    let told = c.before.before in
-    let known = told.before.before in
-    c.smallest.ensures ∙ ap (λ (k : Kind). decision k known.before.args.t2) (sym told.enum_told.given.1 ∙ known.kind-of.ensures)
+    let told = c in
+    let known = told in
+    c.smallest.ensures ∙ ap (λ (k : Kind). decision k known.args.t2) (sym told.enum_told.given.1 ∙ known.kind_of-kind.ensures)
 
-returns-2 : tie.Need-returns-2
+returns-2 : tie.Need-returns-in-Frozen
 unfolding decision
 returns-2 c =
-    let told = c.before in
-    let known = told.before.before in
-    ap (λ (k : Kind). decision k known.before.args.t2) (sym told.kind.given.1 ∙ known.kind-of.ensures)
+    let told = c in
+    let known = told in
+    ap (λ (k : Kind). decision k known.args.t2) (sym told.kind.given.1 ∙ known.kind_of-kind.ensures)
 
-pub decide-spec : {M : Type 1} → statement M
-decide-spec = tie.close (tie.spec (λ c κs. tt) (λ c. search rules) (λ c κs. tt) (λ c. search rules) returns returns-2)
+pub decide_spec : {M : Type 1} → statement M
+decide_spec = tie.close (tie.spec (λ c κs. tt) (λ c. search rules) (λ c κs. tt) (λ c. search rules) returns returns-2)

@@ -6,13 +6,13 @@ use borrow.Author.Rules.{rules}
 use Rattle.frame_file.proofs.end_frame.Statement.{statement}
 use Rattle.frame_file.proofs.end_frame.Tie as tie
 
-returns : tie.Need-returns
+returns : tie.Need-returns-then-left
 unfolding end_verdict
-returns c = c.first-tried.ensures ∙ ap (λ (t : Bool). first_tried c.before.before.args.verdict (cond t 12 0)) (sym c.before.if1.true)
+returns c = c.first_tried.ensures ∙ ap (λ (t : Bool). first_tried c.args.verdict (cond t 12 0)) (sym c.if-left.true)
 
-returns-2 : tie.Need-returns-2
+returns-2 : tie.Need-returns-else-left
 unfolding end_verdict
-returns-2 c = c.first-tried2.ensures ∙ ap (λ (t : Bool). first_tried c.before.before.args.verdict (cond t 12 0)) (sym c.before.if1.false)
+returns-2 c = c.first_tried-else-left.ensures ∙ ap (λ (t : Bool). first_tried c.args.verdict (cond t 12 0)) (sym c.if-left.false)
 
-pub end-frame-spec : {M : Type 1} → statement M
-end-frame-spec = tie.close (tie.spec (λ c κs. search rules) (λ c κs. search rules) returns returns-2)
+pub end_frame_spec : {M : Type 1} → statement M
+end_frame_spec = tie.close (tie.spec (λ c κs. search rules) (λ c κs. search rules) returns returns-2)

@@ -5,22 +5,22 @@ use Rattle.frame_file.proofs.feed_line.Statement.{statement}
 use Rattle.frame_file.proofs.feed_line.Tie as tie
 
 -- the place after the line is read, from the one where it is tested for a refusal
-abbrev to_read : tie.After-slice-known2 → tie.After-read-frame-line
+abbrev to_read : tie.After-slice_known-2-1 → tie.After-read_frame_line-refused
 to_read c = c.before.before
 
-returns : tie.Need-returns
+returns : tie.Need-returns-then-refused-ne0
 returns c =
     let read = to_read c.before.before in
-    fed_refused _ _ read.read-frame-line.ensures c.before.if1.true c.first-tried.ensures
+    fed_refused _ _ read.read_frame_line-refused.ensures c.if-refused-ne0.true c.first_tried.ensures
 
-returns-2 : tie.Need-returns-2
+returns-2 : tie.Need-returns
 returns-2 c =
-    let way = c.before.before.before in
-    let read = to_read way.before in
-    fed_accepted _ _ read.read-frame-line.ensures way.if1.false c.before.frame-refusal.ensures c.first-tried2.ensures
+    let way = c in
+    let read = to_read way.before.before.before in
+    fed_accepted _ _ read.read_frame_line-refused.ensures way.if-refused-ne0.false c.frame_refusal.ensures c.first_tried-2.ensures
 
-pub feed-line-spec : {M : Type 1} → statement M
-feed-line-spec =
+pub feed_line_spec : {M : Type 1} → statement M
+feed_line_spec =
     tie.close (tie.spec
     (λ c κs. search rules) (λ c κs. search rules) (λ c. search rules)
     returns

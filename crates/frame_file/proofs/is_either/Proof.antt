@@ -6,11 +6,11 @@ use lib.Dec.{eqb}
 use Rattle.frame_file.proofs.is_either.Statement.{statement}
 use Rattle.frame_file.proofs.is_either.Tie as tie
 
-returns : tie.Need-returns
-returns c = sym (ap (λ (t : Bool). t || eqb c.before.args.b c.before.args.x) (eq-eqb _ _ c.if1.true))
+returns : tie.Need-returns-then-a-x
+returns c = sym (ap (λ (t : Bool). t || eqb c.args.b c.args.x) (eq-eqb _ _ c.if-a-x.true))
 
-returns-2 : tie.Need-returns-2
-returns-2 c = sym (ap (λ (t : Bool). t || eqb c.before.args.b c.before.args.x) (ne_eqb _ _ c.if1.false))
+returns-2 : tie.Need-returns
+returns-2 c = sym (ap (λ (t : Bool). t || eqb c.args.b c.args.x) (ne_eqb _ _ c.if-a-x.false))
 
-pub is-either-spec : {M : Type 1} → statement M
-is-either-spec = tie.close (tie.spec returns returns-2)
+pub is_either_spec : {M : Type 1} → statement M
+is_either_spec = tie.close (tie.spec returns returns-2)

@@ -13,18 +13,18 @@ use Rattle.phi_order.proofs.ordered.Tie as tie
 
 gathered-requires : tie.Need-gathered-requires
 gathered-requires c κs =
-    λ k l. subst (λ (row : List ℕ). get_or row k 0 < 64) (sym c.before.row_from.ensures) (symbols_lt _ _ k l)
+    λ k l. subst (λ (row : List ℕ). get_or row k 0 < 64) (sym c.row_from-products.ensures) (symbols_lt _ _ k l)
 
 returns : tie.Need-returns
 unfolding ordered_by
 returns c =
-    let a = c.before.before.before.args in
+    let a = c.args in
     let phi = a.phi.now in
     c.gathered.ensures
     ∙ tabulate_ext 64 _ _ (λ k l.
-    ap (λ (row : List ℕ). get_or phi (get_or row k 0) 0 % 8192) c.before.before.row_from.ensures
+    ap (λ (row : List ℕ). get_or phi (get_or row k 0) 0 % 8192) c.row_from-products.ensures
     ∙ sym (low_at phi _ (symbols_lt a.table.now a.h k l)))
 
-pub ordered-spec : {M : Type 1} → statement M
-ordered-spec =
+pub ordered_spec : {M : Type 1} → statement M
+ordered_spec =
     tie.close (tie.spec (λ c κs. search rules) gathered-requires returns)

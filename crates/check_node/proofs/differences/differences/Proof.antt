@@ -6,31 +6,31 @@ use Rattle.check_node.proofs.DifferenceLaws.{difference_made}
 use Rattle.check_node.proofs.differences.differences.Statement.{statement}
 use Rattle.check_node.proofs.differences.differences.Tie as tie
 
-abbrev invariant-loop : tie.invariant-loop
+abbrev invariant-loop : tie.invariant-loop-c
 invariant-loop ordered y r₀ c₀ r c = Filled 64 (λ k. (get_or (penalties_before ordered) k 0 + 65536 - get_or ordered k 0) % 65536) r c
 
-abbrev decreases-loop : tie.decreases-loop
+abbrev decreases-loop : tie.decreases-loop-c
 decreases-loop ordered y r₀ c₀ r c = 64 - c
 
-penalties-before-requires : tie.Need-penalties-before-requires invariant-loop decreases-loop
+penalties-before-requires : tie.Need-penalties_before-y-requires invariant-loop decreases-loop
 penalties-before-requires c κs = c.requires.long
 
-loop-holds : tie.Need-loop-init invariant-loop decreases-loop
+loop-holds : tie.Need-loop-c-init invariant-loop decreases-loop
 loop-holds c = fill_none refl
 
-loop-again : tie.Need-loop-preserved invariant-loop decreases-loop
+loop-again : tie.Need-loop-c-preserved invariant-loop decreases-loop
 loop-again c =
-    let head = c.before.before.before in
-    let start = head.before.before in
-    fill_more head.loop.invariant (omega arith)
-    (difference_made start.args.ordered.now _ head.loop.c _ start.requires head.before.penalties-before.ensures (omega arith) c.wrapping-sub-u16.type-inv c.wrapping-sub-u16.ensures)
+    let head = c in
+    let start = head in
+    fill_more head.loop-c.invariant (omega arith)
+    (difference_made start.args.ordered.now _ head.loop-c.c _ start.requires head.penalties_before-y.ensures (omega arith) c.wrapping_sub_u16.type_inv c.wrapping_sub_u16.ensures)
 
 returns : tie.Need-returns invariant-loop decreases-loop
 unfolding differences
-returns c = fill_all c.before.loop.invariant c.loop-test.false
+returns c = fill_all c.loop-c.invariant c.loop-c-test.false
 
-pub differences-spec : {M : Type 1} → statement M
-differences-spec =
+pub differences_spec : {M : Type 1} → statement M
+differences_spec =
     tie.close
     (tie.spec invariant-loop decreases-loop penalties-before-requires loop-holds
     (λ c. search rules) (λ c. search rules) (λ c. search rules) (λ c. search rules) (λ c κs. search rules) (λ c. search rules)

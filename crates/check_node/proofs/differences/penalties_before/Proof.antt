@@ -6,9 +6,9 @@ use Rattle.check_node.proofs.differences.penalties_before.Tie as tie
 
 returns : tie.Need-returns
 returns c =
-    let columns = c.before.part-replaced.ensures.replaced c.before.before.before.requires (omega arith) (omega arith) in
-    before_all columns (c.part-replaced2.ensures.replaced columns.long (omega arith) (omega arith))
+    let columns = c.part_replaced-columns.ensures.replaced c.requires (omega arith) (omega arith) in
+    before_all columns (c.part_replaced.ensures.replaced columns.long (omega arith) (omega arith))
 
-pub penalties-before-spec : {M : Type 1} → statement M
-penalties-before-spec =
+pub penalties_before_spec : {M : Type 1} → statement M
+penalties_before_spec =
     tie.close (tie.spec (λ c κs. search rules) (λ c κs. search rules) returns)

@@ -5,28 +5,28 @@ use Rattle.check_node.proofs.DifferenceLaws.{differences_long}
 use Rattle.check_node.proofs.differences.wide_differences.Statement.{statement}
 use Rattle.check_node.proofs.differences.wide_differences.Tie as tie
 
-abbrev invariant-loop : tie.invariant-loop
+abbrev invariant-loop : tie.invariant-loop-c
 invariant-loop ordered d r₀ c₀ r c = Filled 64 (λ k. get_or d k 0) r c
 
-abbrev decreases-loop : tie.decreases-loop
+abbrev decreases-loop : tie.decreases-loop-c
 decreases-loop ordered d r₀ c₀ r c = 64 - c
 
-differences-requires : tie.Need-differences-requires invariant-loop decreases-loop
+differences-requires : tie.Need-differences-d-requires invariant-loop decreases-loop
 differences-requires c κs = c.requires
 
-loop-holds : tie.Need-loop-init invariant-loop decreases-loop
+loop-holds : tie.Need-loop-c-init invariant-loop decreases-loop
 loop-holds c = fill_none refl
 
-loop-again : tie.Need-loop-preserved invariant-loop decreases-loop
-loop-again c = fill_more c.before.loop.invariant (omega arith) refl
+loop-again : tie.Need-loop-c-preserved invariant-loop decreases-loop
+loop-again c = fill_more c.loop-c.invariant (omega arith) refl
 
 returns : tie.Need-returns invariant-loop decreases-loop
 returns c =
-    let made = c.before.before.differences.ensures in
-    fill_all c.before.loop.invariant c.loop-test.false ∙ sym (tabulate_by 0 64 _ _ (ap length made ∙ differences_long _) (λ i l. refl)) ∙ made
+    let made = c.differences-d.ensures in
+    fill_all c.loop-c.invariant c.loop-c-test.false ∙ sym (tabulate_by 0 64 _ _ (ap length made ∙ differences_long _) (λ i l. refl)) ∙ made
 
-pub wide-differences-spec : {M : Type 1} → statement M
-wide-differences-spec =
+pub wide_differences_spec : {M : Type 1} → statement M
+wide_differences_spec =
     tie.close
     (tie.spec invariant-loop decreases-loop differences-requires loop-holds
     (λ c. search rules) (λ c. search rules) (λ c. search rules) (λ c. search rules) (λ c. search rules) (λ c. search rules)

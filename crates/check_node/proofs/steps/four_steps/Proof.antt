@@ -7,13 +7,13 @@ use Rattle.check_node.proofs.steps.four_steps.Tie as tie
 returns : tie.Need-returns
 unfolding four_steps
 returns c =
-    let a = c.before.before.before.before.args in
-    let e0 = c.before.before.before.step.ensures in
-    let e1 = c.before.before.step2.ensures in
-    let e2 = c.before.step3.ensures in
-    c.step4.ensures
+    let a = c.args in
+    let e0 = c.step-held0.ensures in
+    let e1 = c.step-held1.ensures in
+    let e2 = c.step-held2.ensures in
+    c.step.ensures
     ∙ ap (λ (h : ℕ). step h a.d3 a.w3) (e2 ∙ ap (λ (h : ℕ). step h a.d2 a.w2) (e1 ∙ ap (λ (h : ℕ). step h a.d1 a.w1) e0))
 
-pub four-steps-spec : {M : Type 1} → statement M
-four-steps-spec =
+pub four_steps_spec : {M : Type 1} → statement M
+four_steps_spec =
     tie.close (tie.spec (λ c κs. search rules) (λ c κs. search rules) (λ c κs. search rules) (λ c κs. search rules) returns)

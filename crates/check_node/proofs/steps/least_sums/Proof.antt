@@ -8,53 +8,53 @@ use Rattle.check_node.proofs.LeastLaws.{Holds, at_step, none_hold, column_holds,
 use Rattle.check_node.proofs.steps.least_sums.Statement.{statement}
 use Rattle.check_node.proofs.steps.least_sums.Tie as tie
 
-abbrev invariant-loop : tie.invariant-loop
+abbrev invariant-loop : tie.invariant-loop-column
 invariant-loop ordered copied d r₀ column₀ r column = (column ≤ 8) × (length r ≡ 64) × ((b : ℕ) → b < 64 → Holds r₀ ordered b (8 * column) (get_or r b 0))
 
-abbrev decreases-loop : tie.decreases-loop
+abbrev decreases-loop : tie.decreases-loop-column
 decreases-loop ordered copied d r₀ column₀ r column = 8 - column
 
 -- the entry, from the loop's head
-abbrev entry : tie.At-loop invariant-loop decreases-loop → tie.Start invariant-loop decreases-loop
+abbrev entry : tie.At-loop-column invariant-loop decreases-loop → tie.Start invariant-loop decreases-loop
 entry c = c.before.before.before
 
-loop-holds : tie.Need-loop-init invariant-loop decreases-loop
+loop-holds : tie.Need-loop-column-init invariant-loop decreases-loop
 loop-holds c =
-    let start = c.before.before in
+    let start = c in
     (omega arith, start.requires.0.long, λ b l. none_hold start.args.theta start.args.ordered.now b start.requires.0 start.requires.1 l)
 
-column-steps-requires : tie.Need-column-steps-requires invariant-loop decreases-loop
+column-steps-requires : tie.Need-column_steps-next-requires invariant-loop decreases-loop
 column-steps-requires c κs =
-    let head = c.before.before.before in
-    (subst (AtMost 65535) (sym head.before.wide-differences.ensures) (differences_most (entry head).args.ordered.now), omega arith, head.loop.invariant.1)
+    let head = c in
+    (subst (AtMost 65535) (sym head.wide_differences-d.ensures) (differences_most head.args.ordered.now), omega arith, head.loop-column.invariant.1)
 
-loop-again : tie.Need-loop-preserved invariant-loop decreases-loop
+loop-again : tie.Need-loop-column-preserved invariant-loop decreases-loop
 loop-again c =
-    let head = c.before.before.before.before in
-    let start = entry head in
-    let column = head.loop.column in
-    let m = c.column-steps.ensures in
+    let head = c in
+    let start = entry head.before.before.before.before in
+    let column = head.loop-column.column in
+    let m = c.column_steps-next.ensures in
     let l : column < 8 = omega arith in
     let n : 8 * column + 4 * 2 ≡ 8 * (column + 1) = omega arith in (
       omega arith,
       m.long,
       λ b s.
           subst (Holds start.args.theta start.args.ordered.now b (8 * (column + 1))) (sym (m.done b (omega arith) s))
-          (at_step n (column_holds start.args.theta b (head.before.before.copies.ensures start.pre.0.long) head.before.wide-differences.ensures start.pre.0 start.pre.1 s column _ l (head.loop.invariant.2 b s) 2 (omega arith))),
+          (at_step n (column_holds start.args.theta b (head.copies-copied.ensures start.requires.0.long) head.wide_differences-d.ensures start.requires.0 start.requires.1 s column _ l (head.loop-column.invariant.2 b s) 2 (omega arith))),
     )
 
 returns : tie.Need-returns invariant-loop decreases-loop
 unfolding summed
 returns c =
-    let head = c.before.before.before.before in
-    let start = entry head in
-    let n : 8 * head.loop.column ≡ 64 = omega arith in
+    let head = c in
+    let start = entry head.before.before.before.before.before in
+    let n : 8 * head.loop-column.column ≡ 64 = omega arith in
     c.summed.ensures
-    ∙ tabulate_ext 64 _ _ (λ b l. all_hold (head.loop.invariant.2 b l) n)
+    ∙ tabulate_ext 64 _ _ (λ b l. all_hold (head.loop-column.invariant.2 b l) n)
     ∙ sums_are_node start.args.theta start.args.ordered.now
 
-pub least-sums-spec : {M : Type 1} → statement M
-least-sums-spec =
+pub least_sums_spec : {M : Type 1} → statement M
+least_sums_spec =
     tie.close
     (tie.spec invariant-loop decreases-loop
     (λ c κs. search rules) (λ c κs. search rules)

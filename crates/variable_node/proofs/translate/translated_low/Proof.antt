@@ -13,46 +13,46 @@ use Rattle.variable_node.proofs.translate.translated_low.Statement.{statement}
 use Rattle.variable_node.proofs.translate.translated_low.Tie as tie
 
 -- the entry, from the place after the first test, and from the one after the second
-abbrev entry : tie.Joined1 → tie.Start
+abbrev entry : tie.Joined-u-eq1 → tie.Start
 entry c = c.before.before
 
-abbrev start : tie.Joined2 → tie.Start
-start c = entry c.before
+abbrev start : tie.Joined-u-eq1-2 → tie.Start
+start c = c.before.before.before
 
 -- what a test leaves: the vector translated by the bits that were tested
-after1 : (c : tie.Joined1) → c.if1.by1 ≡ swapped (entry c).args.v.now ((entry c).args.u % 2)
+after1 : (c : tie.Joined-u-eq1) → c.if-u-eq1.by1 ≡ swapped c.args.v.now (c.args.u % 2)
 after1 c =
-    let a = (entry c).args in
+    let a = c.args in
     ⊎_elim
-    (λ w. w.3 ∙ w.2.ensures ∙ ap (swapped a.v.now) (sym w.0.taken))
-    (λ w. w.1 ∙ swapped_none a.v.now (entry c).requires ∙ ap (swapped a.v.now) (not_one (a.u % 2) (omega arith) w.0.left))
-    c.if1.branch
+    (λ w. w.by1-is ∙ w.swapped-by1.ensures ∙ ap (swapped a.v.now) (sym w.if-u-eq1.true))
+    (λ w. w.by1-is ∙ swapped_none a.v.now c.requires ∙ ap (swapped a.v.now) (not_one (a.u % 2) (omega arith) w.if-u-eq1.false))
+    c.if-u-eq1.branch-raw
 
-after2 : (c : tie.Joined2) → c.if2.by2 ≡ swapped (start c).args.v.now (((start c).args.u / 2 % 2 * 2) ⊕ ((start c).args.u % 2))
+after2 : (c : tie.Joined-u-eq1-2) → c.if-u-eq1-2.by2 ≡ swapped c.args.v.now ((c.args.u / 2 % 2 * 2) ⊕ (c.args.u % 2))
 after2 c =
-    let a = (start c).args in
+    let a = c.args in
     let first = after1 c.before in
     ⊎_elim
-    (λ w. w.3 ∙ swapped_again a.v.now (a.u % 2) 2 w.2.ensures first (omega arith) (ap (λ (b : ℕ). (b * 2) ⊕ (a.u % 2)) (sym w.0.taken)))
+    (λ w. w.by2-is ∙ swapped_again a.v.now (a.u % 2) 2 w.swapped-by2.ensures first (omega arith) (ap (λ (b : ℕ). (b * 2) ⊕ (a.u % 2)) (sym w.if-u-eq1-2.true)))
     (λ w.
-    w.1 ∙ first
-    ∙ ap (swapped a.v.now) (sym (zero_sum (a.u % 2)) ∙ ap (λ (b : ℕ). (b * 2) ⊕ (a.u % 2)) (not_one (a.u / 2 % 2) (omega arith) w.0.left)))
-    c.if2.branch
+    w.by2-is ∙ first
+    ∙ ap (swapped a.v.now) (sym (zero_sum (a.u % 2)) ∙ ap (λ (b : ℕ). (b * 2) ⊕ (a.u % 2)) (not_one (a.u / 2 % 2) (omega arith) w.if-u-eq1-2.false)))
+    c.if-u-eq1-2.branch-raw
 
-returns : tie.Need-returns
+returns : tie.Need-returns-then-u-eq1-3
 returns c =
-    let a = (start c.before.before.before).args in
+    let a = c.args in
     let low = (a.u / 2 % 2 * 2) ⊕ (a.u % 2) in
-    swapped_again a.v.now low 4 c.swapped3.ensures (after2 c.before.before.before) (omega arith)
-    (ap (λ (b : ℕ). (b * 4) ⊕ low) (sym c.before.before.if3.true) ∙ low_bits_sum a.u)
+    swapped_again a.v.now low 4 c.swapped.ensures (after2 c.before.before.before) (omega arith)
+    (ap (λ (b : ℕ). (b * 4) ⊕ low) (sym c.if-u-eq1-3.true) ∙ low_bits_sum a.u)
 
-returns-2 : tie.Need-returns-2
+returns-2 : tie.Need-returns-else-u-eq1-3
 returns-2 c =
-    let a = (start c.before).args in
+    let a = c.args in
     let low = (a.u / 2 % 2 * 2) ⊕ (a.u % 2) in
     after2 c.before
-    ∙ ap (swapped a.v.now) (sym (zero_sum low) ∙ ap (λ (b : ℕ). (b * 4) ⊕ low) (not_one (a.u / 4 % 2) (omega arith) c.if3.false) ∙ low_bits_sum a.u)
+    ∙ ap (swapped a.v.now) (sym (zero_sum low) ∙ ap (λ (b : ℕ). (b * 4) ⊕ low) (not_one (a.u / 4 % 2) (omega arith) c.if-u-eq1-3.false) ∙ low_bits_sum a.u)
 
-pub translated-low-spec : {M : Type 1} → statement M
-translated-low-spec =
+pub translated_low_spec : {M : Type 1} → statement M
+translated_low_spec =
     tie.close (tie.spec (λ c κs. search rules) (λ c κs. search rules) (λ c κs. search rules) returns returns-2)

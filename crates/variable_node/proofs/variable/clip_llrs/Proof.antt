@@ -17,44 +17,44 @@ use Rattle.variable_node.proofs.variable.clip_llrs.Tie as tie
 abbrev over : (cap : ℕ) → List ℕ → (k : ℕ) → ℕ
 over cap v k = cond (ltb cap (get_or v k 0)) 1 0
 
-abbrev invariant-loop : tie.invariant-loop
+abbrev invariant-loop : tie.invariant-loop-c
 invariant-loop cap v llrs₀ count₀ c₀ llrs count c = Filled 64 (λ k. min cap (get_or v k 0)) llrs c × (count ≡ sum_to c (over cap v)) × (count ≤ c)
 
-abbrev decreases-loop : tie.decreases-loop
+abbrev decreases-loop : tie.decreases-loop-c
 decreases-loop cap v llrs₀ count₀ c₀ llrs count c = 64 - c
 
 -- the loop's head, from the place where it is known whether the entry exceeds, and the entry of the call, from the head
-abbrev at-loop : tie.After-exceeds invariant-loop decreases-loop → tie.At-loop invariant-loop decreases-loop
-at-loop c = c.before.before.before.before
+abbrev at-loop : tie.After-exceeds-count invariant-loop decreases-loop → tie.At-loop-c invariant-loop decreases-loop
+at-loop c = c.before.before.before.before.before
 
-abbrev entry : tie.At-loop invariant-loop decreases-loop → tie.Start invariant-loop decreases-loop
+abbrev entry : tie.At-loop-c invariant-loop decreases-loop → tie.Start invariant-loop decreases-loop
 entry c = c.before
 
-loop-holds : tie.Need-loop-init invariant-loop decreases-loop
+loop-holds : tie.Need-loop-c-init invariant-loop decreases-loop
 unfolding sum_to
 loop-holds c = (fill_none refl, refl, omega arith)
 
-loop-again : tie.Need-loop-preserved invariant-loop decreases-loop
+loop-again : tie.Need-loop-c-preserved invariant-loop decreases-loop
 loop-again c =
-    let at = (at-loop c).loop in
-    let a = (entry (at-loop c)).args in
-    let one = c.exceeds.ensures in (
-      fill_more at.inv.0 (omega arith) c.before.clip.ensures,
-      ap₂ (λ (x y : ℕ). x + y) at.inv.1 one.0 ∙ sym (sum_more at.c (over a.cap a.v.now)),
+    let at = c.loop-c in
+    let a = c.args in
+    let one = c.exceeds-count.ensures in (
+      fill_more at.invariant.0 (omega arith) c.clip.ensures,
+      ap₂ (λ (x y : ℕ). x + y) at.invariant.1 one.0 ∙ sym (sum_more at.c (over a.cap a.v.now)),
       omega arith,
     )
 
 returns : tie.Need-returns invariant-loop decreases-loop
 unfolding clipped exceeding
 returns c =
-    let at = c.before.loop in
-    let a = (entry c.before).args in
+    let at = c.loop-c in
+    let a = c.args in
     let e : at.c ≡ 64 = omega arith in
     let count = at.invariant.1 ∙ ap (λ (x : ℕ). sum_to x (over a.cap a.v.now)) e in
-    (fill_all at.invariant.0 c.loop-test.false, count, omega arith)
+    (fill_all at.invariant.0 c.loop-c-test.false, count, omega arith)
 
-pub clip-llrs-spec : {M : Type 1} → statement M
-clip-llrs-spec =
+pub clip_llrs_spec : {M : Type 1} → statement M
+clip_llrs_spec =
     tie.close
     (tie.spec invariant-loop decreases-loop loop-holds
     (λ c. search rules) (λ c. search rules) (λ c κs. search rules) (λ c. search rules) (λ c. search rules) (λ c κs. search rules)

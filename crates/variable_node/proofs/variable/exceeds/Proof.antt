@@ -7,11 +7,11 @@ use borrow.Author.Tests.{lt-ltb, le-ltb}
 use Rattle.variable_node.proofs.variable.exceeds.Statement.{statement}
 use Rattle.variable_node.proofs.variable.exceeds.Tie as tie
 
-returns : tie.Need-returns
-returns c = (sym (ap (λ (b : Bool). cond {A = ℕ} b 1 0) (lt-ltb _ _ c.if1.true)), omega arith)
+returns : tie.Need-returns-then-cap-x
+returns c = (sym (ap (λ (b : Bool). cond {A = ℕ} b 1 0) (lt-ltb _ _ c.if-cap-x.true)), omega arith)
 
-returns-2 : tie.Need-returns-2
-returns-2 c = (sym (ap (λ (b : Bool). cond {A = ℕ} b 1 0) (le-ltb _ _ c.if1.false)), omega arith)
+returns-2 : tie.Need-returns-else-cap-x
+returns-2 c = (sym (ap (λ (b : Bool). cond {A = ℕ} b 1 0) (le-ltb _ _ c.if-cap-x.false)), omega arith)
 
-pub exceeds-spec : {M : Type 1} → statement M
-exceeds-spec = tie.close (tie.spec returns returns-2)
+pub exceeds_spec : {M : Type 1} → statement M
+exceeds_spec = tie.close (tie.spec returns returns-2)

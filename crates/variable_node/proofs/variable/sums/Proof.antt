@@ -10,37 +10,37 @@ use Rattle.variable_node.proofs.TranslateLaws.{translated_sum}
 use Rattle.variable_node.proofs.variable.sums.Statement.{statement}
 use Rattle.variable_node.proofs.variable.sums.Tie as tie
 
-abbrev invariant-loop : tie.invariant-loop
+abbrev invariant-loop : tie.invariant-loop-c
 invariant-loop theta ordered u t r₀ c₀ r c = Filled 64 (sum_at theta ordered u) r c
 
-abbrev decreases-loop : tie.decreases-loop
+abbrev decreases-loop : tie.decreases-loop-c
 decreases-loop theta ordered u t r₀ c₀ r c = 64 - c
 
-translated-requires : tie.Need-translated-requires invariant-loop decreases-loop
+translated-requires : tie.Need-translated-t-requires invariant-loop decreases-loop
 translated-requires c κs = (omega arith, c.requires.1.long)
 
-loop-holds : tie.Need-loop-init invariant-loop decreases-loop
+loop-holds : tie.Need-loop-c-init invariant-loop decreases-loop
 loop-holds c = fill_none refl
 
-add_r : tie.Need-overflow-add-r invariant-loop decreases-loop
+add_r : tie.Need-overflow_add-r invariant-loop decreases-loop
 add_r c =
-    let head = c.before.before in
-    let start = head.before.before in
-    let t = swapped_small start.args.theta.now _ (omega arith) head.before.translated.ensures start.requires.1 in
-    omega (arith, t.most head.loop.c (omega arith), start.requires.2.most head.loop.c (omega arith))
+    let head = c in
+    let start = head in
+    let t = swapped_small start.args.theta.now _ (omega arith) head.translated-t.ensures start.requires.1 in
+    omega (arith, t.most head.loop-c.c (omega arith), start.requires.2.most head.loop-c.c (omega arith))
 
-loop-again : tie.Need-loop-preserved invariant-loop decreases-loop
+loop-again : tie.Need-loop-c-preserved invariant-loop decreases-loop
 loop-again c =
-    let head = c.before.before in
-    let start = head.before.before in
-    fill_more head.loop.invariant (omega arith) (translated_sum start.args.theta.now start.args.ordered.now start.args.u head.loop.c head.before.translated.ensures (omega arith))
+    let head = c in
+    let start = head in
+    fill_more head.loop-c.invariant (omega arith) (translated_sum start.args.theta.now start.args.ordered.now start.args.u head.loop-c.c head.translated-t.ensures (omega arith))
 
 returns : tie.Need-returns invariant-loop decreases-loop
 unfolding sums_from
-returns c = fill_all c.before.loop.invariant c.loop-test.false
+returns c = fill_all c.loop-c.invariant c.loop-c-test.false
 
-pub sums-spec : {M : Type 1} → statement M
-sums-spec =
+pub sums_spec : {M : Type 1} → statement M
+sums_spec =
     tie.close
     (tie.spec invariant-loop decreases-loop translated-requires loop-holds
     (λ c. search rules) (λ c. search rules) (λ c. search rules) (λ c. search rules)

@@ -10,33 +10,33 @@ use Rattle.reorder.proofs.LowLaws.{low_small}
 use Rattle.variable_node.proofs.variable.variable_node.Statement.{statement}
 use Rattle.variable_node.proofs.variable.variable_node.Tie as tie
 
-sums-requires : tie.Need-sums-requires
+sums-requires : tie.Need-sums-all-requires
 sums-requires c κs =
-    let first = c.before.before.before in
-    let a = first.before.args in
-    (omega arith, low_small a.theta.now first.low_bits.ensures, low_small a.ordered.now c.before.before.low-bits2.ensures)
+    let first = c in
+    let a = first.args in
+    (omega arith, low_small a.theta.now first.low_bits-low_theta.ensures, low_small a.ordered.now c.low_bits-low_ordered.ensures)
 
 returns : tie.Need-returns
 unfolding less_from subtract_least low_six
 returns c =
-    let clip = c.before in
-    let less = clip.before.before.before in
-    let summed = less.before.before in
-    let second = summed.before.before.before in
-    let first = second.before in
-    let a = first.before.args in
-    let all = summed.sums.ensures ∙ ap₂ (λ (t w : List _). sums_from (low_six a.u) t w) first.low_bits.ensures second.low-bits2.ensures in
-    let low = less.subtract-least.ensures.0 ∙ ap less_least all in
-    let made = clip.clip-llrs.ensures in
+    let clip = c in
+    let less = clip in
+    let summed = less in
+    let second = summed in
+    let first = second in
+    let a = first.args in
+    let all = summed.sums-all.ensures ∙ ap₂ (λ (t w : List _). sums_from (low_six a.u) t w) first.low_bits-low_theta.ensures second.low_bits-low_ordered.ensures in
+    let low = less.subtract_least-low.ensures.0 ∙ ap less_least all in
+    let made = clip.clip_llrs-clipped.ensures in
     record {
       llrs_are = made.0 ∙ ap (clipped a.cap) low;
       count_is = made.1 ∙ ap (exceeding a.cap) low;
       few = made.2;
-      taken_is = less.subtract-least.ensures.1 ∙ ap least all;
+      taken_is = less.subtract_least-low.ensures.1 ∙ ap least all;
     }
 
-pub variable-node-spec : {M : Type 1} → statement M
-variable-node-spec =
+pub variable_node_spec : {M : Type 1} → statement M
+variable_node_spec =
     tie.close
     (tie.spec (λ c κs. search rules) (λ c κs. search rules)
     sums-requires

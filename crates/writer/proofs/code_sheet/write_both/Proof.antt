@@ -23,44 +23,44 @@ first_part : (s : tie.Start) → length (take (first_bytes s) s.args.out.now) �
 first_part s = length-take-le (first_bytes s) s.args.out.now (fits s)
 
 -- the entry, from the place after the first slice is written, and that place, from the one after the second is
-abbrev entry : tie.After-write-lines → tie.Start
+abbrev entry : tie.After-write_lines → tie.Start
 entry c = c.before.before.before.before.before
 
-abbrev to_first : tie.After-write-lines2 → tie.After-write-lines
+abbrev to_first : tie.After-write_lines-2 → tie.After-write_lines
 to_first c = c.before.before.before.before
 
-slice-aggregate-write-lines : tie.Need-slice-aggregate-write-lines
+slice-aggregate-write-lines : tie.Need-slice_bounds-write_lines-end-2
 slice-aggregate-write-lines c = sym (first_part c.before.before.before.before)
 
-write-lines-requires : tie.Need-write-lines-requires
+write-lines-requires : tie.Need-write_lines-requires
 write-lines-requires c κs =
-    let s = c.before.before.before.before in
-    record { few = s.requires.few_first; out_long = first_part s }
+    let s = c in
+    record { few = s.requires.few_first; out_long = first_part s.before.before.before.before }
 
-write-lines-requires-2 : tie.Need-write-lines-requires-2
+write-lines-requires-2 : tie.Need-write_lines-requires-2
 write-lines-requires-2 c κs =
-    let one = c.before.before.before in
-    let s = entry one in
-    let long = s.pre.out_long in
+    let one = c in
+    let s = entry one.before.before.before in
+    let long = s.requires.out_long in
     let out = s.args.out.now in
-    let rest = lent_tail (first_bytes s) out one.write-lines.new.1.0 one.write-lines.auto.1.0 (fits s) in
+    let rest = lent_tail (first_bytes s) out one.write_lines.new.out one.write_lines.auto.out (fits s) in
     record {
-      few = s.pre.few_second;
+      few = s.requires.few_second;
       out_long = ap length rest ∙ length-drop (first_bytes s) out ∙ omega arith;
     }
 
 returns : tie.Need-returns
 returns c =
-    let two = c.before.before in
-    let one = to_first two in
+    let two = c in
+    let one = to_first two.before.before in
     let s = entry one in
-    lent_both (first_bytes s) s.args.out.now one.write-lines.last.1.0 one.write-lines.kept.1.0 (fits s)
-    two.write-lines2.new.1.0
-    ∙ ap₂ (λ (xs ys : List ℕ). xs ++ ys) one.write-lines.ensures two.write-lines2.ensures
+    lent_both (first_bytes s) s.args.out.now one.write_lines.new.out one.write_lines.auto.out (fits s)
+    two.write_lines-2.new.out
+    ∙ ap₂ (λ (xs ys : List ℕ). xs ++ ys) one.write_lines.ensures two.write_lines-2.ensures
     ∙ sym (lines_append 4 s.args.first.now s.args.second.now)
 
-pub write-both-spec : {M : Type 1} → statement M
-write-both-spec =
+pub write_both_spec : {M : Type 1} → statement M
+write_both_spec =
     tie.close (tie.spec
     (λ c. search rules) (λ c. search rules)
     slice-aggregate-write-lines

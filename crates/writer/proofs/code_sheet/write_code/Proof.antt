@@ -34,26 +34,26 @@ first_part : (s : tie.Start) → length (take 5 s.args.out.now) ≡ 5
 first_part s = length-take-le 5 s.args.out.now (fits s)
 
 -- the entry, from the place after n is written, and that place, from the one after the other numbers are
-abbrev entry : tie.After-write-lines → tie.Start
+abbrev entry : tie.After-write_lines → tie.Start
 entry c = c.before.before.before.before.before.before
 
-abbrev to-n : tie.After-write-both → tie.After-write-lines
+abbrev to-n : tie.After-write_both → tie.After-write_lines
 to-n c = c.before.before.before.before
 
-slice-aggregate-write-lines-2 : tie.Need-slice-aggregate-write-lines-2
+slice-aggregate-write-lines-2 : tie.Need-slice_bounds-write_lines-end-3
 slice-aggregate-write-lines-2 c = sym (first_part c.before.before.before.before.before)
 
-write-lines-requires : tie.Need-write-lines-requires
+write-lines-requires : tie.Need-write_lines-requires
 write-lines-requires c κs = record { few = lit≤ tt; out_long = first_part c.before.before.before.before.before }
 
-write-both-requires : tie.Need-write-both-requires
+write-both-requires : tie.Need-write_both-requires
 write-both-requires c κs =
-    let one = c.before.before.before in
-    let s = entry one in
-    let few = few_places (code s) s.pre.is_code in
-    let few_coefs = few_kernels (code s) s.pre.is_code in
+    let one = c in
+    let s = entry one.before.before.before in
+    let few = few_places (code s) s.requires.is_code in
+    let few_coefs = few_kernels (code s) s.requires.is_code in
     let long = out_long s in
-    let rest = lent_tail 5 s.args.out.now one.write-lines.new.1.0 one.write-lines.auto.1.0 (fits s) in
+    let rest = lent_tail 5 s.args.out.now one.write_lines.new.out one.write_lines.auto.out (fits s) in
     record {
       few_first = omega arith;
       few_second = omega arith;
@@ -62,16 +62,16 @@ write-both-requires c κs =
 
 returns : tie.Need-returns
 returns c =
-    let two = c.before.before in
-    let one = to-n two in
+    let two = c in
+    let one = to-n two.before.before in
     let s = entry one in
-    lent_both 5 s.args.out.now one.write-lines.last.1.0 one.write-lines.kept.1.0 (fits s)
-    two.write-both.new.1.1.0
-    ∙ ap₂ (λ (xs ys : List ℕ). xs ++ ys) one.write-lines.ensures two.write-both.ensures
+    lent_both 5 s.args.out.now one.write_lines.new.out one.write_lines.auto.out (fits s)
+    two.write_both.new.out
+    ∙ ap₂ (λ (xs ys : List ℕ). xs ++ ys) one.write_lines.ensures two.write_both.ensures
     ∙ two_parts (code s)
 
-pub write-code-spec : {M : Type 1} → statement M
-write-code-spec =
+pub write_code_spec : {M : Type 1} → statement M
+write_code_spec =
     tie.close (tie.spec
     (λ c. search rules) (λ c. search rules) (λ c. search rules)
     slice-aggregate-write-lines-2

@@ -16,25 +16,25 @@ use Rattle.writer.proofs.code_sheet.write_line.Tie as tie
 four : (out : List ℕ) → length out ≡ 5 → length (take 4 out) ≡ 4
 four out long = length-take-le 4 out (omega arith)
 
-slice-aggregate-write-number : tie.Need-slice-aggregate-write-number
-slice-aggregate-write-number c = let start = c.before.before in sym (four start.args.out.now start.requires)
+slice-aggregate-write-number : tie.Need-slice_bounds-write_number-end-2
+slice-aggregate-write-number c = let start = c in sym (four start.args.out.now start.requires)
 
 returns : tie.Need-returns
 returns c =
-    let done = c.before.before in
-    let start = done.before.before.before in
+    let done = c in
+    let start = done in
     let out = start.args.out.now in
     let v = start.args.v in
-    let columns = done.write-number.new.1.0 in
-    let is = done.write-number.ensures ∙ ap (λ (k : ℕ). field k v) (four out start.requires) in
+    let columns = done.write_number.new.out in
+    let is = done.write_number.ensures ∙ ap (λ (k : ℕ). field k v) (four out start.requires) in
     let size = ap length is ∙ length_field 4 v in
     feed_put 4 (columns ++ drop 4 out) (field 4 v)
     (length_front out columns 4 (size ∙ sym (four out start.requires)) ∙ start.requires)
     (take_at columns (drop 4 out) 4 size ∙ is)
     ∙ sym (one_number 4 v)
 
-pub write-line-spec : {M : Type 1} → statement M
-write-line-spec =
+pub write_line_spec : {M : Type 1} → statement M
+write_line_spec =
     tie.close (tie.spec
     (λ c. search rules)
     slice-aggregate-write-number

@@ -10,18 +10,18 @@ use Rattle.writer.proofs.code_sheet.write_refusal.Tie as tie
 returns : tie.Need-returns
 unfolding unequal
 returns c3 =
-    let c2 = c3.before.before in
-    let c1 = c2.before in
+    let c2 = c3 in
+    let c1 = c2 in
     write_tried _ _ (walked (call 3 ∷ rows 1 ∷ call 3 ∷ []) _ tt (simp (
-      called _ c3.or_else.ensures c3.before.code-refusal.ensures,
-      c2.first.ensures,
-      c1.size-refusal.ensures,
-      c1.before.kernel-count.ensures.0,
-      c1.before.before.place-count.ensures.0,
+      called _ c3.or_else.ensures c3.code_refusal.ensures,
+      c2.first-r.ensures,
+      c1.size_refusal-r.ensures,
+      c1.kernel_count.ensures.0,
+      c1.place_count.ensures.0,
     )))
 
-pub write-refusal-spec : {M : Type 1} → statement M
-write-refusal-spec =
+pub write_refusal_spec : {M : Type 1} → statement M
+write_refusal_spec =
     tie.close (tie.spec
     (λ c κs. tt) (λ c. search rules) (λ c κs. tt) (λ c. search rules) (λ c κs. tt)
     (λ c. search rules) (λ c κs. tt) (λ c κs. tt) (λ c κs. tt)

@@ -9,12 +9,12 @@ use Rattle.writer.proofs.frame_line.line_refusal.Tie as tie
 returns : tie.Need-returns
 unfolding unequal
 returns c2 =
-    let c1 = c2.before.before in
+    let c1 = c2 in
     line_tried _ _ (walked (rows 2 ∷ call 2 ∷ []) _ tt (simp (
-      called _ c2.or_else.ensures c2.before.frame-refusal.ensures,
-      c1.first2.ensures,
-      c1.before.first.ensures,
+      called _ c2.or_else.ensures c2.frame_refusal.ensures,
+      c1.first-r-2.ensures,
+      c1.first-r.ensures,
     )))
 
-pub line-refusal-spec : {M : Type 1} → statement M
-line-refusal-spec = tie.close (tie.spec (λ c κs. tt) (λ c κs. tt) (λ c κs. tt) (λ c κs. tt) returns)
+pub line_refusal_spec : {M : Type 1} → statement M
+line_refusal_spec = tie.close (tie.spec (λ c κs. tt) (λ c κs. tt) (λ c κs. tt) (λ c κs. tt) returns)

@@ -7,25 +7,25 @@ use Rattle.writer.proofs.frame_line.write_frame_line.Statement.{statement}
 use Rattle.writer.proofs.frame_line.write_frame_line.Tie as tie
 
 -- the entry, from the place where nothing is refused
-abbrev entry : tie.Else1 → tie.Start
-entry c = c.before.before.before.before.before
+abbrev entry : tie.Else-refused-ne0 → tie.Start
+entry c = c.before.before.before.before
 
 -- there the penalties are accepted
-none_fits : (c : tie.Else1) → line_write_refusal (entry c).args.llrs.now (entry c).args.line.now ≡ 0
-none_fits c = sym c.before.line-refusal.ensures ∙ c.if1.false
+none_fits : (c : tie.Else-refused-ne0) → line_write_refusal c.args.llrs.now c.args.line.now ≡ 0
+none_fits c = sym c.line_refusal-refused.ensures ∙ c.if-refused-ne0.false
 
-returns : tie.Need-returns
-returns c = line_refused _ _ c.before.line-refusal.ensures c.if1.true
+returns : tie.Need-returns-then-refused-ne0
+returns c = line_refused _ _ c.line_refusal-refused.ensures c.if-refused-ne0.true
 
-write-llrs-requires : tie.Need-write-llrs-requires
+write-llrs-requires : tie.Need-write_llrs-requires
 write-llrs-requires c κs = accepted _ _ (none_fits c.before)
 
-returns-2 : tie.Need-returns-2
+returns-2 : tie.Need-returns
 returns-2 c =
-    let done = c.before.before in
-    line_accepted _ _ (none_fits done.before.before) done.write-llrs.ensures
+    let done = c in
+    line_accepted _ _ (none_fits done.before.before.before.before) done.write_llrs.ensures
 
-pub write-frame-line-spec : {M : Type 1} → statement M
-write-frame-line-spec =
+pub write_frame_line_spec : {M : Type 1} → statement M
+write_frame_line_spec =
     tie.close
     (tie.spec (λ c κs. search rules) (λ c. search rules) returns write-llrs-requires (λ c. search rules) returns-2)
