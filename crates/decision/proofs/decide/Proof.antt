@@ -11,14 +11,14 @@ unfolding decision
 returns c =
     let told = c in
     let known = told in
-    c.smallest.ensures ∙ ap (λ (k : Kind). decision k known.args.t2) (sym told.enum_told.given.1 ∙ known.kind_of-kind.ensures)
+    c.smallest.ensures ∙ ap (λ (k : Kind). decision k known.args.v) (sym c.in-Message.is ∙ known.kind_of-kind.ensures)
 
 returns-2 : tie.Need-returns-in-Frozen
 unfolding decision
 returns-2 c =
     let told = c in
     let known = told in
-    ap (λ (k : Kind). decision k known.args.t2) (sym told.kind.given.1 ∙ known.kind_of-kind.ensures)
+    ap (λ (k : Kind). decision k known.args.v) (sym c.in-Frozen.is ∙ known.kind_of-kind.ensures)
 
 pub decide_spec : {M : Type 1} → statement M
 decide_spec = tie.close (tie.spec (λ c κs. tt) (λ c. search rules) (λ c κs. tt) (λ c. search rules) returns returns-2)

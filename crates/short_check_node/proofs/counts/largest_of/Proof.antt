@@ -4,10 +4,10 @@ use native.Mathlib.Decide.{dec_lt}
 use Rattle.short_check_node.proofs.counts.largest_of.Statement.{statement}
 use Rattle.short_check_node.proofs.counts.largest_of.Tie as tie
 
-abbrev invariant-loop : tie.invariant-loop
+abbrev invariant-loop : tie.invariant-loop-c
 invariant-loop v m₀ c₀ m c = (c ≤ 64) × (m ≤ 8191) × ((i : ℕ) → i < c → get_or v i 0 ≤ m)
 
-abbrev decreases-loop : tie.decreases-loop
+abbrev decreases-loop : tie.decreases-loop-c
 decreases-loop v m₀ c₀ m c = 64 - c
 
 -- one penalty more that is not above the largest
@@ -18,25 +18,25 @@ one_more v c m n h l x i s = go (dec_lt i c)
     go (yes q) = let a = h i q in omega arith
     go (no q) = let e : c ≡ i = omega arith in subst (λ (j : ℕ). get_or v j 0 ≤ n) e x
 
-loop-holds : tie.Need-loop-init invariant-loop decreases-loop
+loop-holds : tie.Need-loop-c-init invariant-loop decreases-loop
 loop-holds c = (omega arith, omega arith, λ i l. absurd (omega arith))
 
-loop-again : tie.Need-loop-preserved invariant-loop decreases-loop
+loop-again : tie.Need-loop-c-preserved invariant-loop decreases-loop
 loop-again c =
-    let head = c.before.before.before in
-    let v = head.before.args.v.now in
-    let at = head.loop in
-    let s = head.before.requires.most at.c (omega arith) in
+    let head = c in
+    let v = head.args.v.now in
+    let at = head.loop-c in
+    let s = head.requires.most at.c (omega arith) in
     ⊎_elim
-    (λ w. let e = w.1 in let l = w.0.taken in (omega arith, omega arith, one_more v at.c at.m c.if1.m at.invariant.2 (omega arith) (omega arith)))
-    (λ w. let e = w.1 in let l = w.0.left in (omega arith, omega arith, one_more v at.c at.m c.if1.m at.invariant.2 (omega arith) (omega arith)))
-    c.if1.branch
+    (λ w. let e = w.m-is in let l = w.if-m-x.true in (omega arith, omega arith, one_more v at.c at.m c.if-m-x.m at.invariant.2 (omega arith) (omega arith)))
+    (λ w. let e = w.m-is in let l = w.if-m-x.false in (omega arith, omega arith, one_more v at.c at.m c.if-m-x.m at.invariant.2 (omega arith) (omega arith)))
+    c.if-m-x.branch-raw
 
 returns : tie.Need-returns invariant-loop decreases-loop
-returns c = (λ b l. c.before.loop.invariant.2 b (omega arith), c.before.loop.invariant.1)
+returns c = (λ b l. c.loop-c.invariant.2 b (omega arith), c.loop-c.invariant.1)
 
-pub largest-of-spec : {M : Type 1} → statement M
-largest-of-spec =
+pub largest_of_spec : {M : Type 1} → statement M
+largest_of_spec =
     tie.close
     (tie.spec invariant-loop decreases-loop loop-holds
     (λ c. search rules) (λ c. search rules) (λ c. search rules) (λ c. search rules)

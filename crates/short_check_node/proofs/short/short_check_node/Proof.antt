@@ -9,38 +9,38 @@ use Rattle.short_check_node.proofs.SetLaws.{asked_some, asked_most}
 use Rattle.short_check_node.proofs.short.short_check_node.Statement.{statement}
 use Rattle.short_check_node.proofs.short.short_check_node.Tie as tie
 
-returns : tie.Need-returns
+returns : tie.Need-returns-then-candidates-gt63
 returns c =
-    let a = c.before.before.args in
+    let a = c.args in
     let m = asked_some a.candidates (omega arith) in
-    c.check-node.ensures
+    c.check_node.ensures
     ∙ sym (tried_all (at_least_one a.candidates) (low_bits a.theta.now) (low_bits a.ordered.now) (omega arith))
 
-tried-sums-requires : tie.Need-tried-sums-requires
+tried-sums-requires : tie.Need-tried_sums-requires
 tried-sums-requires c κs =
-    let ordered = c.before.before in
-    let counted = ordered.before.before in
-    let a = counted.before.before.args in
-    let m = counted.at_least_one.ensures in
+    let ordered = c in
+    let counted = ordered in
+    let a = counted.args in
+    let m = counted.at_least_one-m.ensures in
     let l = asked_most a.candidates (omega arith) in (
-      low_small a.theta.now ordered.before.low_bits.ensures,
-      low_small a.ordered.now ordered.low-bits2.ensures,
+      low_small a.theta.now ordered.low_bits-low_theta.ensures,
+      low_small a.ordered.now ordered.low_bits-low_ordered.ensures,
       omega arith,
       omega arith,
     )
 
-returns-2 : tie.Need-returns-2
+returns-2 : tie.Need-returns
 returns-2 c =
-    let ordered = c.before.before.before in
-    let theta = ordered.before in
-    let counted = theta.before in
-    let a = counted.before.before.args in
-    c.tried-sums.ensures
-    ∙ ap (λ (x : ℕ). check_tried x theta.low_bits.result ordered.low-bits2.result) counted.at_least_one.ensures
-    ∙ ap₂ (check_tried (at_least_one a.candidates)) theta.low_bits.ensures ordered.low-bits2.ensures
+    let ordered = c in
+    let theta = ordered in
+    let counted = theta in
+    let a = counted.args in
+    c.tried_sums.ensures
+    ∙ ap (λ (x : ℕ). check_tried x theta.low_bits-low_theta.result ordered.low_bits-low_ordered.result) counted.at_least_one-m.ensures
+    ∙ ap₂ (check_tried (at_least_one a.candidates)) theta.low_bits-low_theta.ensures ordered.low_bits-low_ordered.ensures
 
-pub short-check-node-spec : {M : Type 1} → statement M
-short-check-node-spec =
+pub short_check_node_spec : {M : Type 1} → statement M
+short_check_node_spec =
     tie.close
     (tie.spec
     (λ c κs. search rules) returns (λ c κs. search rules) (λ c κs. search rules) (λ c κs. search rules)

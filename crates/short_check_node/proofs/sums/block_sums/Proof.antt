@@ -9,45 +9,45 @@ use Rattle.short_check_node.proofs.SumLaws.{block_with}
 use Rattle.short_check_node.proofs.sums.block_sums.Statement.{statement}
 use Rattle.short_check_node.proofs.sums.block_sums.Tie as tie
 
-abbrev invariant-loop : tie.invariant-loop
+abbrev invariant-loop : tie.invariant-loop-i
 invariant-loop copies x c block from at r₀ i₀ r i = Mapped (with_sum copies x c) (8 * block) (8 * block + i) r₀ r × (i ≤ 8) × (from ≤ 504)
 
-abbrev decreases-loop : tie.decreases-loop
+abbrev decreases-loop : tie.decreases-loop-i
 decreases-loop copies x c block from at r₀ i₀ r i = 8 - i
 
 -- where the copies are read is within them
 within : (c : tie.Start invariant-loop decreases-loop) → bit_xor c.args.block (c.args.c / 8) < 8
 within c = let p = c.requires in xor_lt 3 c.args.block (c.args.c / 8) (omega arith) (omega arith)
 
-mul-from-2 : tie.Need-overflow-mul-from-2 invariant-loop decreases-loop
+mul-from-2 : tie.Need-overflow_mul-from-2 invariant-loop decreases-loop
 mul-from-2 c = let l = within c in search rules
 
-add-from : tie.Need-overflow-add-from invariant-loop decreases-loop
+add-from : tie.Need-overflow_add-from invariant-loop decreases-loop
 add-from c = let l = within c in search rules
 
-loop-holds : tie.Need-loop-init invariant-loop decreases-loop
+loop-holds : tie.Need-loop-i-init invariant-loop decreases-loop
 loop-holds c = let l = within c in (map_none (omega arith) c.requires.0, omega arith, omega arith)
 
-loop-again : tie.Need-loop-preserved invariant-loop decreases-loop
+loop-again : tie.Need-loop-i-preserved invariant-loop decreases-loop
 unfolding ◌⊕◌
 loop-again c =
-    let head = c.before.before.before.before in
-    let a = head.before.args in
-    let p = head.before.requires in
-    let h = head.loop.invariant.0 in
-    let n = 8 * a.block + head.loop.i in (
+    let head = c in
+    let a = head.args in
+    let p = head.requires in
+    let h = head.loop-i.invariant.0 in
+    let n = 8 * a.block + head.loop-i.i in (
       map_more h (omega arith) (omega arith) (omega arith)
           (c.smaller.ensures
-          ∙ block_with a.copies.now a.x a.c a.block head.loop.i _ _ _ (omega arith) (h.later n (omega arith)) c.before.wrapping-add-u16.ensures),
+          ∙ block_with a.copies.now a.x a.c a.block head.loop-i.i _ _ _ (omega arith) (h.later n (omega arith)) c.wrapping_add_u16-sum.ensures),
       omega arith,
-      head.loop.invariant.2,
+      head.loop-i.invariant.2,
     )
 
 returns : tie.Need-returns invariant-loop decreases-loop
-returns c = map_all c.before.loop.invariant.0 (omega arith)
+returns c = map_all c.loop-i.invariant.0 (omega arith)
 
-pub block-sums-spec : {M : Type 1} → statement M
-block-sums-spec =
+pub block_sums_spec : {M : Type 1} → statement M
+block_sums_spec =
     tie.close
     (tie.spec invariant-loop decreases-loop
     (λ c. search rules)

@@ -6,28 +6,28 @@ use Rattle.short_check_node.specs.Masks.{with_sum}
 use Rattle.short_check_node.proofs.sums.value_sums.Statement.{statement}
 use Rattle.short_check_node.proofs.sums.value_sums.Tie as tie
 
-abbrev invariant-loop : tie.invariant-loop
+abbrev invariant-loop : tie.invariant-loop-block
 invariant-loop copies x c r₀ block₀ r block = Mapped (with_sum copies x c) 0 (8 * block) r₀ r × (block ≤ 8)
 
-abbrev decreases-loop : tie.decreases-loop
+abbrev decreases-loop : tie.decreases-loop-block
 decreases-loop copies x c r₀ block₀ r block = 8 - block
 
-loop-holds : tie.Need-loop-init invariant-loop decreases-loop
+loop-holds : tie.Need-loop-block-init invariant-loop decreases-loop
 loop-holds c = (map_none (omega arith) c.requires.0, omega arith)
 
-block-sums-requires : tie.Need-block-sums-requires invariant-loop decreases-loop
+block-sums-requires : tie.Need-block_sums-next-requires invariant-loop decreases-loop
 block-sums-requires c κs =
-    let head = c.before in
-    (head.loop.invariant.0.long, head.before.requires.1, omega arith)
+    let head = c in
+    (head.loop-block.invariant.0.long, head.requires.1, omega arith)
 
-loop-again : tie.Need-loop-preserved invariant-loop decreases-loop
+loop-again : tie.Need-loop-block-preserved invariant-loop decreases-loop
 loop-again c =
-    let at = c.before.before.loop in
-    (map_all (map_join (omega arith) (omega arith) at.invariant.0 c.block-sums.ensures) (omega arith), omega arith)
+    let at = c.loop-block in
+    (map_all (map_join (omega arith) (omega arith) at.invariant.0 c.block_sums-next.ensures) (omega arith), omega arith)
 
 returns : tie.Need-returns invariant-loop decreases-loop
-returns c = map_all c.before.loop.invariant.0 (omega arith)
+returns c = map_all c.loop-block.invariant.0 (omega arith)
 
-pub value-sums-spec : {M : Type 1} → statement M
-value-sums-spec =
+pub value_sums_spec : {M : Type 1} → statement M
+value_sums_spec =
     tie.close (tie.spec invariant-loop decreases-loop loop-holds block-sums-requires (λ c. search rules) (λ c. search rules) loop-again returns)
