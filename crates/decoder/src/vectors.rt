@@ -5,7 +5,7 @@ ghost use Rattle.vector.specs.Vector.{vector_at};
 ghost use Rattle.decoder.specs.Parts.{Numbered};
 
 // A block of 2^layers places: where it lies, and what its nodes go by.
-#[derive(Drop)]
+#[derive(Clone, Copy)]
 pub(crate) struct BlockAt {
     // The number of its layers.
     pub layers: usize,

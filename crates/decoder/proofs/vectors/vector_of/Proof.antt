@@ -9,24 +9,24 @@ use Rattle.vector.proofs.SliceLaws.{vector_by}
 use Rattle.decoder.proofs.vectors.vector_of.Statement.{statement}
 use Rattle.decoder.proofs.vectors.vector_of.Tie as tie
 
-abbrev invariant-loop : tie.invariant-loop
+abbrev invariant-loop : tie.invariant-loop-c
 invariant-loop s i v₀ at c₀ v c = Filled 64 (λ b. get_or s (64 * i + b) 0) v c
 
-abbrev decreases-loop : tie.decreases-loop
+abbrev decreases-loop : tie.decreases-loop-c
 decreases-loop s i v₀ at c₀ v c = 64 - c
 
 returns : tie.Need-returns invariant-loop decreases-loop
 returns c =
-    let s = c.before.before in
-    fill_all c.before.loop.invariant c.loop-test.false ∙ sym (vector_by s.args.s.now s.args.i s.requires)
+    let s = c in
+    fill_all c.loop-c.invariant c.loop-c-test.false ∙ sym (vector_by s.args.s.now s.args.i s.requires)
 
-pub vector-of-spec : {M : Type 1} → statement M
-vector-of-spec =
+pub vector_of_spec : {M : Type 1} → statement M
+vector_of_spec =
     tie.close
     (tie.spec invariant-loop decreases-loop
     (λ c. search rules)
     (λ c. fill_none refl)
     (λ c. search rules) (λ c. search rules) (λ c. search rules) (λ c. search rules) (λ c. search rules) (λ c. search rules)
     (λ c. search rules)
-    (λ c. fill_more c.before.before.loop.invariant (omega arith) refl)
+    (λ c. fill_more c.loop-c.invariant (omega arith) refl)
     returns)
