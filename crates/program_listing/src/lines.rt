@@ -19,11 +19,11 @@ pub(crate) fn write_listing(symbols: &[u8], report: &[u16], count: u32, output: 
         let end = at + LINE;
         let llrs = vector::place_llrs(report, place);
         let line = listing::place_line(place as u32, symbols[place], llrs);
-        bytes::copy(&line, &mut output[at..end]);
+        output[at..end].copy_from_slice(&line);
         place += 1;
     }
     let at = LINE * symbols.len();
     let end = at + LAST_LINE;
     let last = listing::number_line(count);
-    bytes::copy(&last, &mut output[at..end]);
+    output[at..end].copy_from_slice(&last);
 }

@@ -9,10 +9,10 @@ abbrev entry : tie.After-encode → tie.Start
 entry c = c.before.before.before.before.before.before.before
 
 abbrev to-encode : tie.After-spread → tie.After-encode
-to-encode c = c.before.before.before.before.before
+to-encode c = c.before.before.before.before
 
-abbrev to-spread : tie.After-write-samples → tie.After-spread
-to-spread c = c.before.before.before.before.before
+abbrev to-spread : tie.After-write_samples → tie.After-spread
+to-spread c = c.before.before.before.before
 
 encode-requires : tie.Need-encode-requires
 encode-requires c κs = search rules
@@ -20,16 +20,16 @@ encode-requires c κs = search rules
 spread-requires : tie.Need-spread-requires
 spread-requires c κs = search rules
 
-write-samples-requires : tie.Need-write-samples-requires
+write-samples-requires : tie.Need-write_samples-requires
 write-samples-requires c κs = search rules
 
-same_length : tie.Need-same-length
+same_length : tie.Need-shape_of-codeword
 same_length c = search rules
 
-same-length-2 : tie.Need-same-length-2
+same-length-2 : tie.Need-shape_of-numbers
 same-length-2 c = search rules
 
-same-length-3 : tie.Need-same-length-3
+same-length-3 : tie.Need-shape_of-samples
 same-length-3 c = search rules
 
 returns : tie.Need-returns
@@ -37,11 +37,11 @@ returns c =
     let samples-call = c.before in
     let spread-call = to-spread samples-call in
     let encode-call = to-encode spread-call in
-    sent (entry encode-call).pre encode-call.encode.ensures spread-call.spread.ensures
-    samples-call.write-samples.new.1.1.0 samples-call.write-samples.ensures
+    sent (entry encode-call).requires encode-call.encode.ensures spread-call.spread.ensures
+    samples-call.write_samples.new.samples samples-call.write_samples.ensures
 
-pub send-with-spec : {M : Type 1} → statement M
-send-with-spec =
+pub send_with_spec : {M : Type 1} → statement M
+send_with_spec =
     tie.close
     (tie.spec
     encode-requires

@@ -14,31 +14,31 @@ unfolding unequal
 returns c8 =
     let s : tie.Start = search rules in
     let a = s.args in
-    let c7 = c8.before in
-    let c6 = c7.before in
-    let c5 = c6.before in
-    let c4 = c5.before in
-    let c3 = c4.before in
-    let c2 = c3.before in
-    let c1 = c2.before in
-    let c0 = c1.before in
+    let c7 = c8 in
+    let c6 = c7 in
+    let c5 = c6 in
+    let c4 = c5 in
+    let c3 = c4 in
+    let c2 = c3 in
+    let c1 = c2 in
+    let c0 = c1 in
     buffers_tried (transmission_of a.n a.map.now a.coefs.now a.message.now 0 0)
     (trip_lent_of a.samples.now a.frame.now a.work.now a.symbols.now a.report.now a.totals.now a.decoded.now) (walked (call 3 ∷ []) _ tt (simp (
-      c8.first8.ensures,
-      c7.first7.ensures,
-      c6.first6.ensures,
-      c5.first5.ensures,
-      c4.first4.ensures,
-      c3.first3.ensures,
-      c2.first2.ensures,
-      c1.first.ensures,
-      c0.size-refusal.ensures,
-      c0.before.message-places.ensures,
-      c0.before.before.place-count.ensures.0,
+      c8.first.ensures,
+      c7.first-r-7.ensures,
+      c6.first-r-6.ensures,
+      c5.first-r-5.ensures,
+      c4.first-r-4.ensures,
+      c3.first-r-3.ensures,
+      c2.first-r-2.ensures,
+      c1.first-r.ensures,
+      c0.size_refusal-r.ensures,
+      c0.message_places-places.ensures,
+      c0.place_count-size.ensures.0,
     )))
 
-pub size-refusal-spec : {M : Type 1} → statement M
-size-refusal-spec =
+pub size_refusal_spec : {M : Type 1} → statement M
+size_refusal_spec =
     tie.close
     (tie.spec
     (λ c κs. tt) (λ c κs. tt) (λ c κs. tt)

@@ -5,11 +5,11 @@ use Rattle.loopback.proofs.RefusalLaws.{size_refused, size_accepted}
 use Rattle.loopback.proofs.refusals.trip_refusal.Statement.{statement}
 use Rattle.loopback.proofs.refusals.trip_refusal.Tie as tie
 
-pub trip-refusal-spec : {M : Type 1} → statement M
-trip-refusal-spec =
+pub trip_refusal_spec : {M : Type 1} → statement M
+trip_refusal_spec =
     tie.close
     (tie.spec
     (λ c κs. tt)
-    (λ c. size_refused _ _ _ _ c.before.size-refusal.ensures c.if1.true)
+    (λ c. size_refused _ _ _ _ c.size_refusal-refused.ensures c.if-refused-ne0.true)
     (λ c κs. tt)
-    (λ c. size_accepted _ _ _ _ (sym c.before.before.size-refusal.ensures ∙ c.before.if1.false) c.content-refusal.ensures))
+    (λ c. size_accepted _ _ _ _ (sym c.size_refusal-refused.ensures ∙ c.if-refused-ne0.false) c.content_refusal.ensures))

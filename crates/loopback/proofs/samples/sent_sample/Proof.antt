@@ -13,29 +13,29 @@ use Rattle.loopback.proofs.SampleLaws.{plain, negated, negated_fits}
 use Rattle.loopback.proofs.samples.sent_sample.Statement.{statement}
 use Rattle.loopback.proofs.samples.sent_sample.Tie as tie
 
-cast-level : tie.Need-overflow-cast-level
+cast-level : tie.Need-overflow_cast-level
 cast-level c = search rules
 
-shr-if1 : tie.Need-overflow-shr-if1
+shr-if1 : tie.Need-overflow_shr-number
 shr-if1 c = search rules
 
-sub-result : tie.Need-overflow-sub-result
-sub-result c = negated_fits c.before.args.amplitude c.before.requires.1
+sub-result : tie.Need-overflow_sub-result
+sub-result c = negated_fits c.args.amplitude c.requires.1
 
-returns : tie.Need-returns
+returns : tie.Need-returns-then-number-k-eq0
 unfolding sent_sample chip
 returns c =
-    let a = c.before.args in
-    plain a.amplitude c.before.requires.1
-    ∙ ap (λ (b : Bool). cond b (pos a.amplitude) (neg_ℤ (pos a.amplitude))) (sym (eq-eqb (chip a.number a.k) 0 c.if1.true))
+    let a = c.args in
+    plain a.amplitude c.requires.1
+    ∙ ap (λ (b : Bool). cond b (pos a.amplitude) (neg_ℤ (pos a.amplitude))) (sym (eq-eqb (chip a.number a.k) 0 c.if-number-k-eq0.true))
 
-returns-2 : tie.Need-returns-2
+returns-2 : tie.Need-returns-else-number-k-eq0
 unfolding sent_sample chip
 returns-2 c =
-    let a = c.before.args in
-    to_z-of_z w8 (pos 0 -ℤ to_z w8 a.amplitude) (negated_fits a.amplitude c.before.requires.1)
-    ∙ negated a.amplitude c.before.requires.1
-    ∙ ap (λ (b : Bool). cond b (pos a.amplitude) (neg_ℤ (pos a.amplitude))) (sym (ne_eqb (chip a.number a.k) 0 c.if1.false))
+    let a = c.args in
+    to_z-of_z w8 (pos 0 -ℤ to_z w8 a.amplitude) (negated_fits a.amplitude c.requires.1)
+    ∙ negated a.amplitude c.requires.1
+    ∙ ap (λ (b : Bool). cond b (pos a.amplitude) (neg_ℤ (pos a.amplitude))) (sym (ne_eqb (chip a.number a.k) 0 c.if-number-k-eq0.false))
 
-pub sent-sample-spec : {M : Type 1} → statement M
-sent-sample-spec = tie.close (tie.spec cast-level shr-if1 sub-result returns returns-2)
+pub sent_sample_spec : {M : Type 1} → statement M
+sent_sample_spec = tie.close (tie.spec cast-level shr-if1 sub-result returns returns-2)

@@ -15,58 +15,58 @@ use Rattle.loopback.proofs.SampleLaws.{stored}
 use Rattle.loopback.proofs.samples.write_samples.Statement.{statement}
 use Rattle.loopback.proofs.samples.write_samples.Tie as tie
 
-abbrev invariant-loop : tie.invariant-loop
+abbrev invariant-loop : tie.invariant-loop-j
 invariant-loop numbers amplitude samples₀ j₀ samples j = Filled (64 * length numbers) (λ i. sent_sample amplitude (chip (get_or numbers (i / 64) 0) (i % 64))) samples j
 
-abbrev decreases-loop : tie.decreases-loop
+abbrev decreases-loop : tie.decreases-loop-j
 decreases-loop numbers amplitude samples₀ j₀ samples j = 64 * length numbers - j
 
 -- the loop's head, from the place where a sample is known, and the entry, from the head
-abbrev at-loop : tie.After-sent-sample invariant-loop decreases-loop → tie.At-loop invariant-loop decreases-loop
+abbrev at-loop : tie.After-sent_sample invariant-loop decreases-loop → tie.At-loop-j invariant-loop decreases-loop
 at-loop c = c.before.before.before
 
-abbrev entry : tie.At-loop invariant-loop decreases-loop → tie.Start invariant-loop decreases-loop
+abbrev entry : tie.At-loop-j invariant-loop decreases-loop → tie.Start invariant-loop decreases-loop
 entry c = c.before.before
 
-loop-holds : tie.Need-loop-init invariant-loop decreases-loop
-loop-holds c = fill_none c.before.requires.room
+loop-holds : tie.Need-loop-j-init invariant-loop decreases-loop
+loop-holds c = fill_none c.requires.room
 
-mul-sent-sample : tie.Need-overflow-mul-sent-sample invariant-loop decreases-loop
+mul-sent-sample : tie.Need-offset_bounds-numbers-j invariant-loop decreases-loop
 mul-sent-sample c = search rules
 
-shared-slice-read-sent-sample : tie.Need-shared-slice-read-sent-sample invariant-loop decreases-loop
-shared-slice-read-sent-sample c = let e = c.before.before.loop.invariant.long in omega arith
+shared-slice-read-sent-sample : tie.Need-bounds-numbers-j invariant-loop decreases-loop
+shared-slice-read-sent-sample c = let e = c.loop-j.invariant.long in omega arith
 
-sent-sample-requires : tie.Need-sent-sample-requires invariant-loop decreases-loop
-sent-sample-requires c κs = (omega arith, (entry c.before.before).pre.small)
+sent-sample-requires : tie.Need-sent_sample-requires invariant-loop decreases-loop
+sent-sample-requires c κs = (omega arith, c.requires.small)
 
-slice-set-from-samples : tie.Need-slice-set-from-samples invariant-loop decreases-loop
+slice-set-from-samples : tie.Need-bounds-samples-j invariant-loop decreases-loop
 slice-set-from-samples c = search rules
 
-add-j : tie.Need-overflow-add-j invariant-loop decreases-loop
+add-j : tie.Need-overflow_add-j invariant-loop decreases-loop
 add-j c = search rules
 
-loop-less : tie.Need-loop-smaller invariant-loop decreases-loop
-loop-less c = let e = (at-loop c).loop.invariant.long in omega arith
+loop-less : tie.Need-loop-j-smaller invariant-loop decreases-loop
+loop-less c = let e = c.loop-j.invariant.long in omega arith
 
-loop-again : tie.Need-loop-preserved invariant-loop decreases-loop
+loop-again : tie.Need-loop-j-preserved invariant-loop decreases-loop
 loop-again c =
-    let a = (entry (at-loop c)).args in
-    let at = (at-loop c).loop in
+    let a = c.args in
+    let at = c.loop-j in
     let s = chip (get_or a.numbers.now (at.j / 64) 0) (at.j % 64) in
-    fill_more at.inv (let e = at.inv.long in omega arith)
-    (ap (λ (z : ℤ). to_z w8 (of_z w8 z)) c.sent-sample.ensures ∙ stored a.amplitude (entry (at-loop c)).pre.small s)
+    fill_more at.invariant (let e = at.invariant.long in omega arith)
+    (ap (λ (z : ℤ). to_z w8 (of_z w8 z)) c.sent_sample.ensures ∙ stored a.amplitude c.requires.small s)
 
-same_length : tie.Need-same-length invariant-loop decreases-loop
+same_length : tie.Need-shape_of-samples invariant-loop decreases-loop
 same_length c = search rules
 
 returns : tie.Need-returns invariant-loop decreases-loop
 returns c =
-    let a = (entry c.before).args in
-    fill_all c.before.loop.invariant (let e = c.before.loop.invariant.long in omega arith) ∙ sym (samples_flat a.amplitude a.numbers.now)
+    let a = c.args in
+    fill_all c.loop-j.invariant (let e = c.loop-j.invariant.long in omega arith) ∙ sym (samples_flat a.amplitude a.numbers.now)
 
-pub write-samples-spec : {M : Type 1} → statement M
-write-samples-spec =
+pub write_samples_spec : {M : Type 1} → statement M
+write_samples_spec =
     tie.close
     (tie.spec
     invariant-loop

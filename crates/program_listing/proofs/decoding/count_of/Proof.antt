@@ -7,13 +7,13 @@ use borrow.Author.Rules.{rules}
 use Rattle.program_listing.proofs.decoding.count_of.Statement.{statement}
 use Rattle.program_listing.proofs.decoding.count_of.Tie as tie
 
-returns : tie.Need-returns
+returns : tie.Need-returns-in-Count
 unfolding returned
-returns c = sym (ap (λ (a : Answer). get_or (returned a).values 0 0) c.before.answer.given.1)
+returns c = sym (ap (λ (a : Answer). get_or (returned a).values 0 0) c.in-Count.is)
 
-returns-2 : tie.Need-returns-2
+returns-2 : tie.Need-returns-in-Refused
 unfolding returned
-returns-2 c = sym (ap (λ (a : Answer). get_or (returned a).values 0 0) c.enum_told.given.1)
+returns-2 c = sym (ap (λ (a : Answer). get_or (returned a).values 0 0) c.in-Refused.is)
 
-pub count-of-spec : {M : Type 1} → statement M
-count-of-spec = tie.close (tie.spec (λ c. search rules) (λ c. search rules) returns returns-2)
+pub count_of_spec : {M : Type 1} → statement M
+count_of_spec = tie.close (tie.spec (λ c. search rules) (λ c. search rules) returns returns-2)

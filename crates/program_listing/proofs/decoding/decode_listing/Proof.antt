@@ -9,35 +9,35 @@ use Rattle.program_listing.proofs.decoding.decode_listing.Statement.{statement}
 use Rattle.program_listing.proofs.decoding.decode_listing.Tie as tie
 
 -- the entry, from the place where nothing is refused
-abbrev entry : tie.Else1 → tie.Start
-entry c = c.before.before.before.before.before.before.before
+abbrev entry : tie.Else-refused-ne0 → tie.Start
+entry c = c.before.before.before.before.before.before
 
 -- the code that it was given
 abbrev code : tie.Start → Code
 code s = code_of s.args.n s.args.map.now s.args.coefs.now
 
 -- there the input is accepted
-none_fits : (c : tie.Else1) → listing_refusal (code (entry c)) (entry c).args.frame.now (entry c).args.output.now ≡ 0
-none_fits c = sym c.before.listing-refusal.ensures ∙ c.if1.false
+none_fits : (c : tie.Else-refused-ne0) → listing_refusal (code (entry c)) c.args.frame.now c.args.output.now ≡ 0
+none_fits c = sym c.listing_refusal-refused.ensures ∙ c.if-refused-ne0.false
 
-returns : tie.Need-returns
+returns : tie.Need-returns-then-refused-ne0
 unfolding listing_buffer
 returns c =
-    let e = c.before.listing-refusal.ensures in
-    record { answer = e; bytes_are = sym (when_refused _ _ _ (λ z. c.if1.true (e ∙ z))) }
+    let e = c.listing_refusal-refused.ensures in
+    record { answer = e; bytes_are = sym (when_refused _ _ _ (λ z. c.if-refused-ne0.true (e ∙ z))) }
 
-list-frame-requires : tie.Need-list-frame-requires
+list-frame-requires : tie.Need-list_frame-requires
 list-frame-requires c κs = accepted _ _ _ (none_fits c.before)
 
-returns-2 : tie.Need-returns-2
+returns-2 : tie.Need-returns
 unfolding listing_buffer
 returns-2 c =
-    let listed = c.before.before in
-    let none = none_fits listed.before.before in
-    record { answer = sym none; bytes_are = listed.list-frame.ensures ∙ sym (when_accepted _ _ _ none) }
+    let listed = c in
+    let none = none_fits listed.before.before.before.before in
+    record { answer = sym none; bytes_are = listed.list_frame.ensures ∙ sym (when_accepted _ _ _ none) }
 
-pub decode-listing-spec : {M : Type 1} → statement M
-decode-listing-spec =
+pub decode_listing_spec : {M : Type 1} → statement M
+decode_listing_spec =
     tie.close
     (tie.spec
     (λ c κs. search rules)

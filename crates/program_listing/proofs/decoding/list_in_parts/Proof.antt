@@ -44,39 +44,39 @@ totals_part : (s : tie.Start) → length (take (length s.args.map.now) s.args.to
 totals_part s = length-take-le (length s.args.map.now) s.args.totals.now (totals_fit s)
 
 -- the entry, from the place where the buffers are known
-abbrev entry : tie.After-slice-known5 → tie.Start
+abbrev entry : tie.After-slice_known-5-1 → tie.Start
 entry c = c.before.before.before.before.before.before.before.before
 
-slice-relend-prefix-list-decoded : tie.Need-slice-relend-prefix-list-decoded
+slice-relend-prefix-list-decoded : tie.Need-slice_bounds-list_decoded-end
 slice-relend-prefix-list-decoded c = work_fits (entry c)
 
-slice-aggregate-list-decoded : tie.Need-slice-aggregate-list-decoded
+slice-aggregate-list-decoded : tie.Need-slice_bounds-list_decoded-end-2
 slice-aggregate-list-decoded c = sym (work_part (entry c.before))
 
-slice-relend-prefix-list-decoded-2 : tie.Need-slice-relend-prefix-list-decoded-2
+slice-relend-prefix-list-decoded-2 : tie.Need-slice_bounds-list_decoded-end-3
 slice-relend-prefix-list-decoded-2 c = symbols_fit (entry c.before)
 
-slice-aggregate-list-decoded-2 : tie.Need-slice-aggregate-list-decoded-2
+slice-aggregate-list-decoded-2 : tie.Need-slice_bounds-list_decoded-end-4
 slice-aggregate-list-decoded-2 c = sym (symbols_part (entry c.before.before))
 
-slice-relend-prefix-list-decoded-3 : tie.Need-slice-relend-prefix-list-decoded-3
+slice-relend-prefix-list-decoded-3 : tie.Need-slice_bounds-list_decoded-end-5
 slice-relend-prefix-list-decoded-3 c = report_fits (entry c.before.before)
 
-slice-aggregate-list-decoded-3 : tie.Need-slice-aggregate-list-decoded-3
+slice-aggregate-list-decoded-3 : tie.Need-slice_bounds-list_decoded-end-6
 slice-aggregate-list-decoded-3 c = sym (report_part (entry c.before.before.before))
 
-slice-relend-prefix-list-decoded-4 : tie.Need-slice-relend-prefix-list-decoded-4
+slice-relend-prefix-list-decoded-4 : tie.Need-slice_bounds-list_decoded-end-7
 slice-relend-prefix-list-decoded-4 c = totals_fit (entry c.before.before.before)
 
-slice-aggregate-list-decoded-4 : tie.Need-slice-aggregate-list-decoded-4
+slice-aggregate-list-decoded-4 : tie.Need-slice_bounds-list_decoded-end-8
 slice-aggregate-list-decoded-4 c = sym (totals_part (entry c.before.before.before.before))
 
-list-decoded-requires : tie.Need-list-decoded-requires
+list-decoded-requires : tie.Need-list_decoded-requires
 list-decoded-requires c κs =
     let s = entry c.before.before.before.before.before in
-    let long = s.pre.listable.is_code.map_long in
+    let long = s.requires.listable.is_code.map_long in
     record {
-      listable = s.pre.listable;
+      listable = s.requires.listable;
       buffers = record {
         work_long = work_part s ∙ ap (λ (k : ℕ). 65 * k) long;
         symbols_long = symbols_part s ∙ long;
@@ -85,8 +85,8 @@ list-decoded-requires c κs =
       };
     }
 
-pub list-in-parts-spec : {M : Type 1} → statement M
-list-in-parts-spec =
+pub list_in_parts_spec : {M : Type 1} → statement M
+list_in_parts_spec =
     tie.close
     (tie.spec
     (λ c. search rules) (λ c. search rules)

@@ -11,21 +11,21 @@ use Rattle.program_listing.proofs.refusals.listing_refusal.Tie as tie
 returns : tie.Need-returns
 unfolding unequal
 returns c4 =
-    let c3 = c4.before.before in
-    let c2 = c3.before.before in
-    let c1 = c2.before in
-    let c0 = c1.before in
+    let c3 = c4 in
+    let c2 = c3 in
+    let c1 = c2 in
+    let c0 = c1 in
     listing_tried _ _ _ (walked (call 3 ∷ rows 2 ∷ call 3 ∷ call 2 ∷ []) _ tt (simp (
-      called _ c4.or-else2.ensures c4.before.frame-refusal.ensures,
-      called _ c3.or_else.ensures c3.before.code-refusal.ensures,
-      c2.first2.ensures,
-      c1.first.ensures,
-      c0.size-refusal.ensures,
-      c0.before.place-count.ensures.0,
+      called _ c4.or_else.ensures c4.frame_refusal.ensures,
+      called _ c3.or_else-r.ensures c3.code_refusal.ensures,
+      c2.first-r-2.ensures,
+      c1.first-r.ensures,
+      c0.size_refusal-r.ensures,
+      c0.place_count-size.ensures.0,
     )))
 
-pub listing-refusal-spec : {M : Type 1} → statement M
-listing-refusal-spec =
+pub listing_refusal_spec : {M : Type 1} → statement M
+listing_refusal_spec =
     tie.close
     (tie.spec
     (λ c κs. tt) (λ c κs. tt)
