@@ -1,11 +1,12 @@
--- What the calls with an enum for their answer promise. The others promise what `encode` of polar, `demap` of demapper,
--- and `write_sheet` and `write_frame_line` of writer do.
+-- What `zithejo_decode` promises, and what the calls on a base do. The other calls promise what `encode` of polar, `demap`
+-- of demapper, and `write_sheet` and `write_frame_line` of writer do.
 use Rattle.std.specs.Prelude.{ℕ, ◌≡◌, List, [], ◌∷◌}
 use Rattle.refusal.specs.Returned.{Returned}
 use Rattle.polar_code.specs.Code.{Code}
 use Rattle.decoder_refusal.specs.Refusals.{Settings, Lent}
-use Rattle.decoder.specs.Decode as decode
-use Rattle.distances.specs.declared.distance.Answer.{Answer}
+use Rattle.decoder.specs.Decode.{returned, Decoded}
+use Rattle.decoder.specs.declared.decoder.Answer.{Answer}
+use Rattle.distances.specs.declared.distance.Answer.{Answer as Counted}
 use Rattle.distances.specs.declared.premise.Holds.{Holds}
 use Rattle.distances.specs.Distance as distance
 use Rattle.distances.specs.Shifts as shifts
@@ -16,6 +17,16 @@ unfoldable pub first_or : List ℕ → ℕ → ℕ
 first_or [] before = before
 first_or (value ∷ values) before = value
 
+-- The promise, for every input: there is an answer of `decode`, with all that `decode` promises of it and of the lent
+-- buffers at exit; the number returned is that of the answer, 0 where the frame was decoded; and the count at exit is
+-- the answer's value, or as it came where the answer is a refusal
+pub record DecodeCalled (code : Code) (settings : Settings) (frame : List ℕ) (lent after : Lent)
+    (count count_after r : ℕ) : Type 0 where
+  pub answer : Answer
+  pub decoded : Decoded code settings frame lent after answer
+  pub number_returned : r ≡ (returned answer).number
+  pub count_is : count_after ≡ first_or (returned answer).values count
+
 -- an answer in C: the number is returned, and its value is put into a lent number, which is as it came where the answer
 -- is a refusal
 pub record Told (answer : Returned) (before after r : ℕ) : Type 0 where
@@ -23,7 +34,7 @@ pub record Told (answer : Returned) (before after r : ℕ) : Type 0 where
   pub value_is : after ≡ first_or answer.values before
 
 -- an answer of the calls on distances
-abbrev pub CountTold : Answer → (before after r : ℕ) → Type 0
+abbrev pub CountTold : Counted → (before after r : ℕ) → Type 0
 CountTold answer before after r = Told (distance.returned answer) before after r
 
 -- and of that on the premise
@@ -36,11 +47,6 @@ pub record Called {A : Type 0} (returned : A → Returned) (promise : A → Type
   pub answer : A
   pub promised : promise answer
   pub told : Told (returned answer) before after r
-
--- `decode`: the lent number is the count of clipped entries
-abbrev pub DecodeCalled : Code → Settings → (frame : List ℕ) → (lent after : Lent) → (count count_after r : ℕ) → Type 0
-DecodeCalled code settings frame lent after count count_after r =
-    Called decode.returned (decode.Decoded code settings frame lent after) count count_after r
 
 -- `shift_distance`: it is the distance
 abbrev pub DistanceCalled : (base s : ℕ) → (distance after r : ℕ) → Type 0
