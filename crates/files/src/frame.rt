@@ -5,8 +5,9 @@ ghost use Rattle.files.specs.Printed.{FrameNumber, Penalties};
 ghost use Rattle.files.specs.Parts.{Given, Roomy};
 
 use crate::print::print_refusal;
-use crate::read::{close, read_some};
-use libc::STDOUT_FILENO;
+use crate::read::{open_some, read_some};
+use std::io::Read;
+use std::rt::Files;
 
 // The penalties of the longest frame: 64 for each of 256 places.
 const LONGEST_FRAME: usize = 16384;
@@ -17,7 +18,7 @@ const LONGEST_LISTING: usize = 5382;
 // Reads a line for each place of the frame, and then whether a byte is left, and feeds them to the steps of
 // `frame_file`, which say what the file is refused by and leave the frame's numbers. Returns that refusal, 0 where the
 // file is accepted.
-fn feed_file(fd: i32, frame: &mut [u16]) -> u8
+fn feed_file<F: Read>(file: &mut Option<F>, frame: &mut [u16]) -> u8
     ensures frame_number { FrameNumber result }
     ensures penalties { result ≡ 0 → Penalties frame.new }
 {
@@ -28,29 +29,28 @@ fn feed_file(fd: i32, frame: &mut [u16]) -> u8
     while place < count {
         let at = 64 * place;
         let end = at + 64;
-        let got = read_some(fd, &mut line);
+        let got = read_some(file, &mut line);
         verdict = frame_file::feed_line(verdict, &line[..got], &mut frame[at..end]);
         place += 1;
     }
-    let left = read_some(fd, &mut line[..1]) > 0;
+    let left = read_some(file, &mut line[..1]) > 0;
     frame_file::end_frame(verdict, left)
 }
 
 // Reads a file into the frame, which has 64 numbers for each place of the code. Returns the refusal, 0 where the file
 // is accepted.
-fn read_frame(name: &[u8], frame: &mut [u16]) -> u8
+fn read_frame<R: Files>(rt: &R, name: &[u8], frame: &mut [u16]) -> u8
     ensures frame_number { FrameNumber result }
     ensures penalties { result ≡ 0 → Penalties frame.new }
 {
-    let fd = os::open_read(name);
-    let verdict = feed_file(fd, frame);
-    close(fd);
-    verdict
+    let mut file = open_some(rt, name);
+    feed_file(&mut file, frame)
 }
 
 // Reads a file into the frame and prints the listing, or the number of the refusal. Returns that number, 0 for a
 // listing. A frame that was read is not refused any more: that is proved.
-fn list_file(
+fn list_file<R: Files + Print>(
+    rt: &R,
     name: &[u8],
     n: usize,
     map: &[u8],
@@ -61,20 +61,21 @@ fn list_file(
     requires { Given (code_of n map.now coefs.now) frame.old output.old }
     ensures { FrameNumber result }
 {
-    let verdict = read_frame(name, frame);
+    let verdict = read_frame(rt, name, frame);
     if verdict != 0 {
-        return print_refusal(verdict);
+        return print_refusal(rt, verdict);
     }
     let refused = program_listing::decode_listing(n, map, coefs, frame, output);
     if refused != 0 {
-        return print_refusal(refused);
+        return print_refusal(rt, refused);
     }
-    io::write_all(STDOUT_FILENO, output);
+    let _ = rt.write_all(output);
     0
 }
 
 // The same with the starts of two buffers that have room for the longest word.
-fn list_in_parts(
+fn list_in_parts<R: Files + Print>(
+    rt: &R,
     name: &[u8],
     n: usize,
     map: &[u8],
@@ -88,6 +89,7 @@ fn list_in_parts(
     let frame_size = 64 * map.len();
     let output_size = 21 * map.len() + 6;
     list_file(
+        rt,
         name,
         n,
         map,
@@ -98,11 +100,17 @@ fn list_in_parts(
 }
 
 // The same with buffers of its own.
-pub(crate) fn run_frame(name: &[u8], n: usize, map: &[u8], coefs: &[u8]) -> u8
+pub(crate) fn run_frame<R: Files + Print>(
+    rt: &R,
+    name: &[u8],
+    n: usize,
+    map: &[u8],
+    coefs: &[u8],
+) -> u8
     requires { IsCode (code_of n map.now coefs.now) }
     ensures { FrameNumber result }
 {
     let mut frame = [0u16; LONGEST_FRAME];
     let mut output = [0u8; LONGEST_LISTING];
-    list_in_parts(name, n, map, coefs, &mut frame, &mut output)
+    list_in_parts(rt, name, n, map, coefs, &mut frame, &mut output)
 }

@@ -1,7 +1,7 @@
 // The program's work with files: a code sheet and a frame are read, and a listing or a refusal's number is printed.
-// This is the only library that rests on assumptions: the contracts of the C functions that open, read, write and
-// close files.
+// It is generic over the runtime that opens, reads and prints: what this does is the standard library's own.
 #![tactic(auto)]
+
 mod frame;
 mod print;
 mod program;

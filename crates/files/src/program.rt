@@ -1,13 +1,13 @@
 // The program: the code sheet, then the frame.
-ghost use Rattle.std.specs.Prelude.{◌≡◌};
-ghost use Rattle.io.specs.Counts.{IsPrefixLen};
+ghost use Rattle.std.specs.Prelude.{◌≡◌, ◌≤◌, length};
 ghost use Rattle.sheet.specs.CodeSheet.{returned};
 ghost use Rattle.files.specs.Printed.{Printed};
 
 use crate::frame::run_frame;
 use crate::print::print_refusal;
-use crate::read::{close, read_some};
+use crate::read::{open_some, read_some};
 use sheet::Answer;
+use std::rt::Files;
 
 // The bytes of a sheet that are read: one more than those of the longest sheet that is accepted. The first so many of a
 // longer one get the same verdict as all of it.
@@ -24,30 +24,28 @@ fn refused_by(answer: Answer) -> u8
 }
 
 // Reads a file, as far as buf goes, and returns how many bytes were read: none where it can't be opened.
-fn read_code(name: &[u8], buf: &mut [u8]) -> usize
-    ensures { IsPrefixLen result buf.new }
+fn read_code<R: Files>(rt: &R, name: &[u8], buf: &mut [u8]) -> usize
+    ensures { result ≤ length buf.new }
 {
-    let fd = os::open_read(name);
-    let got = read_some(fd, buf);
-    close(fd);
-    got
+    let mut file = open_some(rt, name);
+    read_some(&mut file, buf)
 }
 
 // The program: reads a code sheet and a frame file for that code, by their names, decodes the frame at Qc = 5 and
 // Qm = 13 and prints the listing, or the number of the first refusal and nothing else. Returns 0 for a listing, or the
 // number that was printed.
-pub fn run(code_name: &[u8], frame_name: &[u8]) -> u8
+pub fn run<R: Files + Print>(rt: &R, code_name: &[u8], frame_name: &[u8]) -> u8
     ensures { Printed result }
 {
     let mut bytes = [0u8; SHEET_BYTES];
     let mut map = [0u8; 256];
     let mut coefs = [0u8; 1024];
-    let got = read_code(code_name, &mut bytes);
+    let got = read_code(rt, code_name, &mut bytes);
     let answer = sheet::read_sheet(&bytes[..got], &mut map, &mut coefs);
     let Answer::Layers(n) = answer else {
-        return print_refusal(refused_by(answer));
+        return print_refusal(rt, refused_by(answer));
     };
     let size = polar_code::place_count(n);
     let count = polar_code::kernel_count(n);
-    run_frame(frame_name, n, &map[..size], &coefs[..count])
+    run_frame(rt, frame_name, n, &map[..size], &coefs[..count])
 }

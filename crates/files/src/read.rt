@@ -1,20 +1,39 @@
-// Reading files.
-ghost use Rattle.io.specs.Counts.{IsPrefixLen};
+// Opening and reading files.
+ghost use Rattle.std.specs.Prelude.{◌≤◌, length};
 
-// Reads until buf is full, the file ends or a read fails, and returns how many bytes were read. A file that could not
-// be opened has a negative number, and counts as empty; so does one that can't be read.
-pub(crate) fn read_some(fd: i32, buf: &mut [u8]) -> usize
-    ensures { IsPrefixLen result buf.new }
-{
-    if fd < 0 {
-        return 0;
+use std::io::Read;
+use std::rt::Files;
+use std::{fs, str};
+
+// Opens a file by its name, to read it; none where it can't be opened.
+pub(crate) fn open_some<R: Files>(rt: &R, name: &[u8]) -> Option<R::File> {
+    match str::from_utf8(name) {
+        Ok(path) => fs::open(rt, path).ok(),
+        Err(_) => None,
     }
-    io::read_full(fd, buf)
 }
 
-// Closes a file, where it was opened.
-pub(crate) fn close(fd: i32) {
-    if fd >= 0 {
-        libc::close(fd);
+// Reads until buf is full, the file ends or a read fails, and returns how many bytes were read.
+fn read_full<F: Read>(file: &mut F, buf: &mut [u8]) -> usize
+    ensures { result ≤ length buf.new }
+{
+    let mut done: usize = 0;
+    while done < buf.len() {
+        let got = file.read(&mut buf[done..]).unwrap_or(0);
+        if got == 0 {
+            break;
+        }
+        done += got;
+    }
+    done
+}
+
+// The same of a file that may not have been opened: then it counts as empty.
+pub(crate) fn read_some<F: Read>(file: &mut Option<F>, buf: &mut [u8]) -> usize
+    ensures { result ≤ length buf.new }
+{
+    match file {
+        Some(opened) => read_full(opened, buf),
+        None => 0,
     }
 }

@@ -32,27 +32,6 @@ back2 c = c.before.before.before.before
 abbrev first : tie.After-w-2-1 → tie.After-swapped-v7
 first c = c.before.before.before.before
 
-abbrev earlier6 : tie.After-swapped-v7 → tie.After-swapped-v6
-earlier6 c = c.before.before
-
-abbrev earlier5 : tie.After-swapped-v7 → tie.After-swapped-v5
-earlier5 c = c.before.before.before.before
-
-abbrev earlier4 : tie.After-swapped-v7 → tie.After-swapped-v4
-earlier4 c = c.before.before.before.before.before.before
-
-abbrev earlier3 : tie.After-swapped-v7 → tie.After-swapped-v3
-earlier3 c = c.before.before.before.before.before.before.before.before
-
-abbrev earlier2 : tie.After-swapped-v7 → tie.After-swapped-v2
-earlier2 c = c.before.before.before.before.before.before.before.before.before.before
-
-abbrev earlier1 : tie.After-swapped-v7 → tie.After-swapped-v1
-earlier1 c = c.before.before.before.before.before.before.before.before.before.before.before.before
-
-abbrev entry : tie.After-swapped-v7 → tie.Start
-entry c = c.before.before.before.before.before.before.before.before.before.before.before.before.before.before
-
 returns : tie.Need-returns
 unfolding ◌⊕◌
 returns c = λ long.

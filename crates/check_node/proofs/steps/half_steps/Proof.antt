@@ -13,10 +13,6 @@ invariant-loop copies d q half first to from d0 d1 d2 d3 r₀ i₀ r i = LanesMa
 abbrev decreases-loop : tie.decreases-loop-i
 decreases-loop copies d q half first to from d0 d1 d2 d3 r₀ i₀ r i = 8 - i
 
--- the entry, from the loop's head
-abbrev entry : tie.At-loop-i invariant-loop decreases-loop → tie.Start invariant-loop decreases-loop
-entry c = c.before.before.before.before.before.before
-
 -- where the copies are read is within them
 within : (c : tie.Start invariant-loop decreases-loop) → bit_xor c.args.q c.args.half < 16
 within c = let p = c.requires in xor_lt 4 c.args.q c.args.half (omega arith) (omega arith)

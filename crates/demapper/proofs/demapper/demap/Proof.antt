@@ -7,10 +7,6 @@ use borrow.Author.Rules.{rules}
 use Rattle.demapper.proofs.demapper.demap.Statement.{statement}
 use Rattle.demapper.proofs.demapper.demap.Tie as tie
 
--- the entry, from the place where nothing is refused
-abbrev entry : tie.Else-refused-ne0 → tie.Start
-entry c = c.before.before.before
-
 -- there the input is accepted
 none_fits : (c : tie.Else-refused-ne0) → demap_refusal c.args.base c.args.top c.args.bottom c.args.qc c.args.samples.now c.args.llrs.now ≡ 0
 none_fits c = sym c.demap_refusal-refused.ensures ∙ c.if-refused-ne0.false

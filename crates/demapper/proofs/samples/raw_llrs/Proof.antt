@@ -20,13 +20,6 @@ invariant-loop chips samples sums₀ k₀ sums k = (k ≤ 64) × (sums ≡ raw_t
 abbrev decreases-loop : tie.decreases-loop-k
 decreases-loop chips samples sums₀ k₀ sums k = 64 - k
 
--- from the place where a sample's size is known: the one where the sample is read, and the loop's head
-abbrev to-sample : tie.After-magnitude invariant-loop decreases-loop → tie.After-y-1 invariant-loop decreases-loop
-to-sample c = c.before.before.before
-
-abbrev at-loop : tie.After-magnitude invariant-loop decreases-loop → tie.At-loop-k invariant-loop decreases-loop
-at-loop c = c.before.before.before.before.before
-
 -- before the first sample each sum is 0
 raw_start : (s : ℕ) → s < 64 → get_or (replicate 64 0) s 0 ≤ 0
 raw_start s l = le_of_eq (get_or-replicate 64 s 0 0 l)

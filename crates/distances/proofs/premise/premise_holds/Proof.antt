@@ -9,10 +9,6 @@ use borrow.Author.Rules.{rules}
 use Rattle.distances.proofs.premise.premise_holds.Statement.{statement}
 use Rattle.distances.proofs.premise.premise_holds.Tie as tie
 
--- the entry, from the place where nothing is refused
-abbrev entry : tie.Else-refused-ne0 → tie.Start
-entry c = c.before.before
-
 -- there the input is accepted
 none_fits : (c : tie.Else-refused-ne0) → premise_refusal c.args.base c.args.top c.args.bottom ≡ 0
 none_fits c = sym c.premise_refusal-refused.ensures ∙ c.if-refused-ne0.false

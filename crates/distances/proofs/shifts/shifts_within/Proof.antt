@@ -9,10 +9,6 @@ use borrow.Author.Rules.{rules}
 use Rattle.distances.proofs.shifts.shifts_within.Statement.{statement}
 use Rattle.distances.proofs.shifts.shifts_within.Tie as tie
 
--- the entry, from the place where nothing is refused
-abbrev entry : tie.Else-refused-ne0 → tie.Start
-entry c = c.before.before.before
-
 -- there the input is accepted
 none_fits : (c : tie.Else-refused-ne0) → shifts_refusal c.args.base c.args.shifts.now ≡ 0
 none_fits c = sym c.shifts_refusal-refused.ensures ∙ c.if-refused-ne0.false

@@ -12,10 +12,6 @@ use borrow.Author.Rules.{rules}
 use Rattle.listing.proofs.lines.place_line.Statement.{statement}
 use Rattle.listing.proofs.lines.place_line.Tie as tie
 
--- the entry, from the place after the first number is written, and from the place after each other to the one before it
-abbrev entry : tie.After-write_number → tie.Start
-entry c = c.before.before.before.before.before
-
 abbrev to_first : tie.After-write_number-2 → tie.After-write_number
 to_first c = c.before.before.before
 

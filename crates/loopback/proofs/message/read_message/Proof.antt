@@ -19,19 +19,8 @@ invariant-loop map word message₀ next₀ j₀ message next j = ReadTo map word
 abbrev decreases-loop : tie.decreases-loop-j
 decreases-loop map word message₀ next₀ j₀ message next j = length map - j
 
--- the place where the loop's test is reached, from the one where the kind is known, and from there the entry
-abbrev at-loop : tie.After-kind_of-kind invariant-loop decreases-loop → tie.At-loop-j invariant-loop decreases-loop
-at-loop c = c.before.before.before
-
-abbrev entry : tie.At-loop-j invariant-loop decreases-loop → tie.Start invariant-loop decreases-loop
-entry c = c.before.before.before.before
-
 loop-holds : tie.Need-loop-j-init invariant-loop decreases-loop
 loop-holds c = record { within = omega arith; long = refl; left = let e = c.requires.room in omega arith; is = refl }
-
--- the kind of the place is the one found
-kind_is : (c : tie.After-kind_of-kind invariant-loop decreases-loop) → c.kind_of-kind.result ≡ kind_of (get_or c.args.map.now c.loop-j.j 0)
-kind_is c = c.kind_of-kind.ensures
 
 -- in a message place there is room left
 room : (c : tie.In-Message invariant-loop decreases-loop) → c.loop-j.next < length c.loop-j.message

@@ -21,13 +21,6 @@ invariant-loop numbers amplitude samples₀ j₀ samples j = Filled (64 * length
 abbrev decreases-loop : tie.decreases-loop-j
 decreases-loop numbers amplitude samples₀ j₀ samples j = 64 * length numbers - j
 
--- the loop's head, from the place where a sample is known, and the entry, from the head
-abbrev at-loop : tie.After-sent_sample invariant-loop decreases-loop → tie.At-loop-j invariant-loop decreases-loop
-at-loop c = c.before.before.before
-
-abbrev entry : tie.At-loop-j invariant-loop decreases-loop → tie.Start invariant-loop decreases-loop
-entry c = c.before.before
-
 loop-holds : tie.Need-loop-j-init invariant-loop decreases-loop
 loop-holds c = fill_none c.requires.room
 

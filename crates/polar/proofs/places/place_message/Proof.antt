@@ -22,10 +22,6 @@ invariant-loop map symbols word₀ next₀ j₀ word next j = PlacedTo map symbo
 abbrev decreases-loop : tie.decreases-loop-j
 decreases-loop map symbols word₀ next₀ j₀ word next j = length map - j
 
--- the place where the loop's test is reached, from the one where the kind is known, and from there the entry
-abbrev at-loop : tie.After-kind_of-kind invariant-loop decreases-loop → tie.At-loop-j invariant-loop decreases-loop
-at-loop c = c.before.before.before
-
 abbrev entry : tie.At-loop-j invariant-loop decreases-loop → tie.Start invariant-loop decreases-loop
 entry c = c.before.before.before.before
 

@@ -19,10 +19,6 @@ invariant-loop v u symbol low r₀ block₀ r block = Mapped (λ b _. get_or v (
 abbrev decreases-loop : tie.decreases-loop-block
 decreases-loop v u symbol low r₀ block₀ r block = 8 - block
 
--- the entry, from the loop's head; and that the eight entries that are read are within the vector
-abbrev entry : tie.At-loop-block invariant-loop decreases-loop → tie.Start invariant-loop decreases-loop
-entry c = c.before.before
-
 within : (c : tie.In-loop-block invariant-loop decreases-loop) → bit_xor c.before.loop-block.block (c.args.u / 8) < 8
 within c =
     let p = c.requires.0 in

@@ -12,13 +12,6 @@ use Rattle.gf64.proofs.SumLaws.{zero_sum}
 use Rattle.variable_node.proofs.translate.translated_low.Statement.{statement}
 use Rattle.variable_node.proofs.translate.translated_low.Tie as tie
 
--- the entry, from the place after the first test, and from the one after the second
-abbrev entry : tie.Joined-u-eq1 → tie.Start
-entry c = c.before.before
-
-abbrev start : tie.Joined-u-eq1-2 → tie.Start
-start c = c.before.before.before
-
 -- what a test leaves: the vector translated by the bits that were tested
 after1 : (c : tie.Joined-u-eq1) → c.if-u-eq1.by1 ≡ swapped c.args.v.now (c.args.u % 2)
 after1 c =

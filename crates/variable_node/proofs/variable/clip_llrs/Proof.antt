@@ -23,13 +23,6 @@ invariant-loop cap v llrs₀ count₀ c₀ llrs count c = Filled 64 (λ k. min c
 abbrev decreases-loop : tie.decreases-loop-c
 decreases-loop cap v llrs₀ count₀ c₀ llrs count c = 64 - c
 
--- the loop's head, from the place where it is known whether the entry exceeds, and the entry of the call, from the head
-abbrev at-loop : tie.After-exceeds-count invariant-loop decreases-loop → tie.At-loop-c invariant-loop decreases-loop
-at-loop c = c.before.before.before.before.before
-
-abbrev entry : tie.At-loop-c invariant-loop decreases-loop → tie.Start invariant-loop decreases-loop
-entry c = c.before
-
 loop-holds : tie.Need-loop-c-init invariant-loop decreases-loop
 unfolding sum_to
 loop-holds c = (fill_none refl, refl, omega arith)

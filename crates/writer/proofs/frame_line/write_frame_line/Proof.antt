@@ -6,10 +6,6 @@ use borrow.Author.Rules.{rules}
 use Rattle.writer.proofs.frame_line.write_frame_line.Statement.{statement}
 use Rattle.writer.proofs.frame_line.write_frame_line.Tie as tie
 
--- the entry, from the place where nothing is refused
-abbrev entry : tie.Else-refused-ne0 → tie.Start
-entry c = c.before.before.before.before
-
 -- there the penalties are accepted
 none_fits : (c : tie.Else-refused-ne0) → line_write_refusal c.args.llrs.now c.args.line.now ≡ 0
 none_fits c = sym c.line_refusal-refused.ensures ∙ c.if-refused-ne0.false
