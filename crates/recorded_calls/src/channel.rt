@@ -5,7 +5,7 @@ use crate::values::{drawn, step};
 
 // How samples are made: the amplitude, the most that noise adds or takes away, and which draws are a sample of -128:
 // those that `lost` divides, none where it is 0.
-#[derive(Drop)]
+#[derive(Clone, Copy)]
 pub(crate) struct Channel {
     pub(crate) amplitude: u64,
     pub(crate) noise: u64,

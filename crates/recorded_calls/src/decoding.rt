@@ -56,7 +56,7 @@ pub(crate) fn run_listing(
 }
 
 // What a round trip is given beside the code and the message.
-#[derive(Drop)]
+#[derive(Clone, Copy)]
 struct Link {
     base: u64,
     amplitude: u32,

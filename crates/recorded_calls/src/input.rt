@@ -2,7 +2,8 @@
 // the form of a record is broken the rest of the input is dropped: so the record does not end, and is found broken.
 ghost use Rattle.std.specs.Prelude.{◌≡◌, ◌≤◌};
 
-use libc::STDIN_FILENO;
+// Standard input.
+const STDIN: i32 = 0;
 
 // The most digits that a number has.
 const MOST_DIGITS: usize = 20;
@@ -13,7 +14,7 @@ const MOST_BLOCKS: usize = 1000;
 // The next byte of the input, 0 where it has ended: no token has that byte.
 pub(crate) fn next_byte() -> u8 {
     let mut byte = [0u8; 1];
-    io::read_full(STDIN_FILENO, &mut byte);
+    io::read_full(STDIN, &mut byte);
     byte[0]
 }
 
@@ -22,7 +23,7 @@ pub(crate) fn drop_rest() {
     let mut block = [0u8; 65536];
     let mut i: usize = 0;
     while i < MOST_BLOCKS {
-        if io::read_full(STDIN_FILENO, &mut block) == 0 {
+        if io::read_full(STDIN, &mut block) == 0 {
             break;
         }
         i += 1;

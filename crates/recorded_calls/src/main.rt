@@ -4,6 +4,7 @@
 // tools/outside/make.py. tools/outside/records.md has the form of a record. One that breaks it ends the run with a line
 // that says so.
 #![tactic(auto)]
+
 mod channel;
 mod decoding;
 mod field;

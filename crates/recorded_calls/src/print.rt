@@ -1,17 +1,19 @@
 // The line of a record: numbers with a blank between them. The first is that of the answer; `main` ends the line.
 use crate::sums::{byte_sum, sample_sum, word_sum};
 use decoder::Answer;
-use libc::STDOUT_FILENO;
+
+// Standard output.
+const STDOUT: i32 = 1;
 
 // Prints a number.
 pub(crate) fn print_number(x: u64) {
-    io::print_decimal(STDOUT_FILENO, x);
+    io::print_decimal(STDOUT, x);
 }
 
 // Prints a blank and a number.
 pub(crate) fn print_next(x: u64) {
-    io::write_all(STDOUT_FILENO, b" ");
-    io::print_decimal(STDOUT_FILENO, x);
+    io::write_all(STDOUT, b" ");
+    io::print_decimal(STDOUT, x);
 }
 
 // Prints a blank and the checksum of bytes.
@@ -42,12 +44,12 @@ pub(crate) fn print_count(answer: Answer) {
 
 // Ends the line.
 pub(crate) fn end_line() {
-    io::write_all(STDOUT_FILENO, b"\n");
+    io::write_all(STDOUT, b"\n");
 }
 
 // Says that record number i breaks its form.
 pub(crate) fn print_broken(i: usize) {
-    io::write_all(STDOUT_FILENO, b"record ");
-    io::print_decimal(STDOUT_FILENO, i as u64);
-    io::write_all(STDOUT_FILENO, b" breaks its form\n");
+    io::write_all(STDOUT, b"record ");
+    io::print_decimal(STDOUT, i as u64);
+    io::write_all(STDOUT, b" breaks its form\n");
 }

@@ -7,14 +7,14 @@ use crate::input::{drop_rest, end_token, next_between, next_digits, next_letter,
 const MOST_CHANGES: usize = 65536;
 
 // How many entries a slice has, and whether they are those that the record before left.
-#[derive(Drop)]
+#[derive(Clone, Copy)]
 pub(crate) struct Taken {
     pub(crate) length: usize,
     pub(crate) left: bool,
 }
 
 // How entries are drawn: from `low` on and one of `range`, at most `top`; and whether one entry of each 64 is 0.
-#[derive(Drop)]
+#[derive(Clone, Copy)]
 struct Drawing {
     low: u64,
     range: u64,
