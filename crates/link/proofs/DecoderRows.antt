@@ -2,7 +2,7 @@
 -- full check nodes.
 use mathlib.Core.Path.{◌≡◌, refl, ap₂, ◌∙◌}
 use mathlib.Core.List.{List, [], ◌∷◌, ◌++◌, map}
-use Prim.Native.Nat.{ℕ, ◌<◌}
+use Prim.Native.Nat.{ℕ}
 use lib.Dec.{lit<}
 use lib.ListN.{get_or, set, replicate}
 use Rattle.vector.specs.Vector.{tabulate, vector_at, joined, sum_to, least_to, least, less_least}

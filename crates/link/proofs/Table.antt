@@ -108,11 +108,11 @@ rows_hold : Hold rows
 rows_hold =
     let f = first_hold in
     let l = last_hold in
-    join_hold f.0 (join_hold f.1 (join_hold f.2 (join_hold f.3 (join_hold f.4 (join_hold distance_hold
+    join_hold f.0 (join_hold f.1 (join_hold f.2 (join_hold f.3 (join_hold f.4
     (join_hold decoder_low (join_hold decoder_high (join_hold sheet_hold
-    (join_hold l.0 (join_hold l.1 (join_hold l.2 listing_hold)))))))))))
+    (join_hold l.0 (join_hold l.1 (join_hold l.2 listing_hold))))))))))
 
 -- every row holds
 pub worked : Worked
 unfolding sent_sample sent_symbol tabulate chip symbol_chip
-worked = record { rows_hold = rows_hold.same; samples_sent = refl; premise_fails = fails; premise_holds = holds; answers_no = answers_no; answers_yes = answers_yes; nine_gives_1 = nine; zero_eight_gives_12 = zero_eight; totals_of_four = totals_of_four }
+worked = record { rows_hold = rows_hold.same; distance_rows_hold = distance_hold.same; samples_sent = refl; premise_fails = fails; premise_holds = holds; answers_no = answers_no; answers_yes = answers_yes; nine_gives_1 = nine; zero_eight_gives_12 = zero_eight; totals_of_four = totals_of_four }

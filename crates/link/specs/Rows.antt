@@ -247,13 +247,12 @@ listing_rows =
     }
     ∷ []
 
--- all rows
+-- all rows but those on distances
 abbrev pub rows : List Row
 rows =
-    product_rows ++ (transform_rows ++ (base_rows ++ (gain_rows ++ (lost_rows ++ (distance_rows
-    ++ (decoder_rows (mode_of 1 all_candidates)
+    product_rows ++ (transform_rows ++ (base_rows ++ (gain_rows ++ (lost_rows ++ (decoder_rows (mode_of 1 all_candidates)
     ++ (decoder_rows (mode_of 13 all_candidates)
-    ++ (sheet_rows ++ (link_rows ++ (line_rows ++ (written_rows ++ listing_rows)))))))))))
+    ++ (sheet_rows ++ (link_rows ++ (line_rows ++ (written_rows ++ listing_rows))))))))))
 
 -- a code and a message sent with base 1 and amplitude 10
 abbrev pub sent_by : Code → (message : List ℕ) → Transmission
@@ -263,14 +262,15 @@ sent_by code message = record { code = code; message = message; base = 1; amplit
 abbrev pub received_by : (bottom qm : ℕ) → Reception
 received_by bottom qm = record { top = 1; bottom = bottom; settings = settings_of 3 qm all_candidates }
 
--- the claim over the whole table: every row's two sides are the same; those samples are what is sent for symbol 0 with
--- amplitude 10; and with base 1, amplitude 10 and Qc 3 the noiseless statement's premise fails for gain 1/40 and holds
--- for gain 1/20, whatever code and message are sent, and `premise_holds` answers no and yes; whatever comes after the
--- first line of a sheet and whatever buffers are lent, `   9` gives 1 and `  08` gives 12; and the totals of the frame
--- of N = 4 above: layer 2 takes off 1 at place 1, the two kernels of layer 1 take off 1 and 2, both for places 2 and 3,
--- and layer 2 takes off 3 at place 3
+-- the claim over the whole table: every row's two sides are the same, those on distances too; those samples are what is
+-- sent for symbol 0 with amplitude 10; and with base 1, amplitude 10 and Qc 3 the noiseless statement's premise fails
+-- for gain 1/40 and holds for gain 1/20, whatever code and message are sent, and `premise_holds` answers no and yes;
+-- whatever comes after the first line of a sheet and whatever buffers are lent, `   9` gives 1 and `  08` gives 12; and
+-- the totals of the frame of N = 4 above: layer 2 takes off 1 at place 1, the two kernels of layer 1 take off 1 and 2,
+-- both for places 2 and 3, and layer 2 takes off 3 at place 3
 pub record Worked : Type 0 where
   pub rows_hold : map (λ (r : Row). r.given) rows ≡ map (λ (r : Row). r.expected) rows
+  pub distance_rows_hold : map (λ (r : Row). r.given) distance_rows ≡ map (λ (r : Row). r.expected) distance_rows
   pub samples_sent : sent_symbol 1 10 0 ≡ worked_samples
   pub premise_fails : (code : Code) (message : List ℕ) (qm : ℕ) → ChainInput (sent_by code message) (received_by 40 qm)
       → NoiselessPremise (sent_by code message) (received_by 40 qm) → ⊥

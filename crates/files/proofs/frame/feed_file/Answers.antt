@@ -1,5 +1,5 @@
 -- `feed_file` meets its contract: the verdict so far is not 2, and where it is 0 the vectors fed are penalties.
-use Rattle.std.proofs.Common.{◌≡◌, ℕ, ◌+◌, ◌-◌, ◌*◌, ◌/◌, ◌≤◌, ◌<◌, arith, refl, sym, ◌∙◌, subst, length}
+use Rattle.std.proofs.Common.{◌+◌, ◌-◌, ◌*◌, arith, refl, sym, ◌∙◌, subst}
 use borrow.Rule.Slice.PartMut.{same_len_mid}
 use Rattle.files.specs.Printed.{FrameNumber}
 use Rattle.frame_file.proofs.FrameLaws.{fed_number, end_number, fed_penalties, end_zero}

@@ -1,5 +1,5 @@
 -- `list_file` meets its contract: a frame that was read is not refused.
-use Rattle.std.proofs.Common.{◌≡◌, ◌∙◌, inl}
+use Rattle.std.proofs.Common.{◌∙◌, inl}
 use Rattle.files.proofs.PrintedLaws.{not_refused}
 use Rattle.files.proofs.frame.list_file.Goals as goal
 

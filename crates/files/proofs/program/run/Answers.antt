@@ -1,5 +1,5 @@
 -- `run` meets its contract: the parts of the two buffers that are lent are the code that was read.
-use Rattle.std.proofs.Common.{◌≡◌, ℕ, ◌^◌, refl, sym, ◌∙◌, subst, List, length, take}
+use Rattle.std.proofs.Common.{ℕ, ◌^◌, refl, sym, ◌∙◌, subst, take}
 use Rattle.polar_code.specs.Code.{code_of, IsCode}
 use Rattle.polar_code.proofs.SizeLaws.{places_are, kernels_are}
 use Rattle.sheet.specs.CodeSheet.{SheetRead}

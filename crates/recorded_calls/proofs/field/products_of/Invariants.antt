@@ -1,7 +1,5 @@
 -- `products_of` stays inside its array, and ends.
-use mathlib.Core.Path.{◌≡◌}
 use Prim.Native.Nat.{◌-◌, ◌≤◌}
-use lib.ListN.{length}
 use Rattle.recorded_calls.proofs.field.products_of.Given as goal
 
 abbrev pub invariant-loop-i : goal.invariant-loop-i
