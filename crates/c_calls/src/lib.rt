@@ -4,6 +4,7 @@
 // number for one, and what is lent to be written must not overlap anything else that is lent. Those on a base stand in
 // base.rt.
 #![tactic(auto)]
+
 mod base;
 
 ghost use Rattle.polar_code.specs.Code.{code_of};

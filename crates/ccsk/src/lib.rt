@@ -1,5 +1,6 @@
 // CCSK chips: spreading of symbols to chips.
 #![tactic(auto)]
+
 mod chips;
 mod spreader;
 

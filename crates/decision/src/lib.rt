@@ -1,5 +1,6 @@
 // The decision at one place, from the 64 penalties held for it.
 #![tactic(auto)]
+
 ghost use Rattle.std.specs.Prelude.{◌≡◌};
 ghost use Rattle.polar_code.specs.Code.{kind_of};
 ghost use Rattle.scms.specs.Decision.{smallest, decision};

@@ -1,5 +1,6 @@
 // The soft demapper (document 01: weighing): from samples to penalties.
 #![tactic(auto)]
+
 mod chips;
 mod demapper;
 mod samples;

@@ -1,5 +1,6 @@
 // Chip distances of a base: how near its shifts lie, and whether the premise of the noiseless statement holds.
 #![tactic(auto)]
+
 mod distance;
 mod premise;
 mod shifts;

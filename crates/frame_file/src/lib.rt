@@ -1,5 +1,6 @@
 // A frame file, line by line. The state is a number: that by which what was read so far is refused, 0 where it is not.
 #![tactic(auto)]
+
 ghost use Rattle.std.specs.Prelude.{◌≡◌, ◌||◌, eqb};
 ghost use Rattle.frame_file.specs.FrameFile.{first_tried, end_verdict, LineFed};
 

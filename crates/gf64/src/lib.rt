@@ -1,5 +1,6 @@
 // The field GF(64) of document 01: a symbol's bit i is the coefficient of a^i, and a^6 = a + 1.
 #![tactic(auto)]
+
 mod product_table;
 mod worked_out;
 

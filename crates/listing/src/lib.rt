@@ -1,5 +1,6 @@
 // The lines that the program prints. No file is touched here: each function makes the bytes of one line.
 #![tactic(auto)]
+
 mod held;
 mod lines;
 

@@ -1,5 +1,6 @@
 // Phi's vector in the order of c, in which both nodes of a kernel use it.
 #![tactic(auto)]
+
 ghost use Rattle.std.specs.Prelude.{◌≡◌, ℕ, ◌+◌, ◌%◌, ◌<◌, get_or};
 ghost use Rattle.vector.specs.Vector.{tabulate};
 ghost use Rattle.vector.specs.Frame.{largest_llr};

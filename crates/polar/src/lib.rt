@@ -1,5 +1,6 @@
 // The polar code over GF(64): the transform by halves and the encoder.
 #![tactic(auto)]
+
 mod encoder;
 mod places;
 mod transform;

@@ -1,6 +1,7 @@
 // Refusals: the tests that several calls share, and the steps by which a call goes down its table. The table that picks
 // the number is a definition, in specs/Table.antt.
 #![tactic(auto)]
+
 ghost use Rattle.std.specs.Prelude.{◌≡◌};
 ghost use Rattle.refusal.specs.Tests.{outside, any_outside};
 ghost use Rattle.refusal.specs.Walk.{or_else, first};

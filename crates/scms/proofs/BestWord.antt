@@ -14,7 +14,7 @@ use Rattle.polar.proofs.TreeLaws.{number_lt, all2_by, tree_of_at}
 use Rattle.polar.proofs.OneToOne.{Symbol, AllNonZero, transform_symbols, coefs_nonzero}
 use Rattle.scms.specs.Mode.{Mode, Full}
 use Rattle.scms.specs.Decision.{decision}
-use Rattle.scms.specs.Decoder.{symbols, count}
+use Rattle.scms.specs.Decoder.{symbols}
 use Rattle.scms.specs.Totals.{total, Least, InCode, FrozenFirst, Unclipped}
 use Rattle.scms.specs.Claims.{BestWord}
 use Rattle.scms.specs.Halves.{Vectors, check_nodes, variable_nodes, clipped_nodes, decode_tree, frame_tree, decode_halves, decode_tree_by}

@@ -10,7 +10,7 @@ use Rattle.vector.specs.Vector.{sum_to}
 use Rattle.vector.proofs.Laws.{sum_ext, sum_first, sum_split, sum_add}
 use Rattle.polar_code.specs.Code.{Code}
 use Rattle.polar.specs.Transform.{coefficient, layers}
-use Rattle.polar.specs.Tree.{Tree, map3, map4, tree_of, Place, here, at, number, tree_sum}
+use Rattle.polar.specs.Tree.{Tree, map3, map4, tree_of, Place, at, number, tree_sum}
 use Rattle.polar.proofs.Numbers.{two_pow, half_pow}
 use Rattle.polar.proofs.TreeLaws.{number_lt, map3_at, map4_at, ext_at}
 use Rattle.polar.proofs.Windows.{window, block_coefs}

@@ -1,6 +1,7 @@
 // The code sheet and the lines of a frame file, read: numbers in four columns, the lines of a sheet, one line of a
 // frame.
 #![tactic(auto)]
+
 mod code_sheet;
 mod frame_line;
 mod line;

@@ -2,6 +2,7 @@
 // the bits of one number, and only their sums are made. The body is shaped for the compiler, which works on eight
 // entries at a time.
 #![tactic(auto)]
+
 mod counts;
 mod masks;
 mod short;

@@ -2,6 +2,7 @@
 // the side of the channel, and theta's symbol. The body is shaped for the compiler, which works on eight entries at a
 // time.
 #![tactic(auto)]
+
 mod translate;
 mod variable;
 

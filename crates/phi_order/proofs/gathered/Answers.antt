@@ -1,6 +1,6 @@
 -- `gathered` meets its contract: each product is below 64, and four entries more are filled in a turn.
-use Rattle.std.proofs.Common.{◌≡◌, ◌+◌, ◌%◌, ◌<◌, arith, refl, get_or}
-use Rattle.vector.proofs.Laws.{Filled, fill_none, fill_all}
+use Rattle.std.proofs.Common.{◌+◌, arith, refl}
+use Rattle.vector.proofs.Laws.{fill_none, fill_all}
 use Rattle.reorder.proofs.LoopLaws.{fill_next}
 use Rattle.phi_order.proofs.gathered.Goals as goal
 

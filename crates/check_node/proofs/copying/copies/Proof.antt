@@ -1,5 +1,5 @@
 -- `copies` meets its contract: each store adds one copy.
-use Rattle.std.proofs.Common.{◌-◌, refl, arith, rules}
+use Rattle.std.proofs.Common.{refl, arith, rules}
 use Rattle.gf64.specs.Field.{◌⊕◌}
 use Rattle.reorder.proofs.SwapLaws.{swapped_none, swapped_again}
 use Rattle.check_node.proofs.CopyLaws.{copies_none, copies_more}

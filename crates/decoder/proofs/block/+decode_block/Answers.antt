@@ -1,6 +1,6 @@
 -- `decode_block` meets its contract: the halves are decoded one after the other, one layer less each, from the nodes of
 -- the kernels that join them (BlockLaws).
-use Rattle.std.proofs.Common.{◌≡◌, ℕ, ◌+◌, ◌-◌, ◌*◌, ◌/◌, ◌≤◌, ◌<◌, arith, length, List}
+use Rattle.std.proofs.Common.{◌≡◌, ℕ, ◌-◌, ◌*◌, ◌/◌, ◌<◌, arith, length, List}
 use Rattle.vector.proofs.LentParts.{put, put_drop, put_long, tail}
 use Rattle.polar.proofs.JoinLaws.{joined_products}
 use Rattle.decoder.specs.Parts.{BlockGiven}
@@ -102,8 +102,7 @@ overflow_add-second-2 t c =
 
 pub decode_block-right-requires : goal.decode_block-right-requires
 decode_block-right-requires t c =
-    let d = (goal.at.decode_block-right-requires t c).After-decode_block-left in
-    (
+    let d = (goal.at.decode_block-right-requires t c).After-decode_block-left in (
       fewer c.args.block.layers t c.if-block-eq0.false c.decreases,
       (
         laws.at_second d.if-block-eq0.false (again t d) (first_half t d) c.variable_nodes-nodes.auto.work c.variable_nodes-nodes.ensures,
@@ -129,7 +128,7 @@ returns t c =
     let g = again t d in
     let f = first_half t d in
     let s : laws.SecondHalf ne g f c.variable_nodes-nodes.auto.work c.variable_nodes-nodes.ensures (second_left t (goal.at.returns t c).After-decode_block-right) =
-        record { word_long = c.decode_block-right.auto.word; decoded = c.decode_block-right.ensures } in
+    record { word_long = c.decode_block-right.auto.word; decoded = c.decode_block-right.ensures } in
     let h = laws.at_joins ne g f c.variable_nodes-nodes.auto.work c.variable_nodes-nodes.ensures s in
     laws.at_done ne g f c.variable_nodes-nodes.auto.work c.variable_nodes-nodes.ensures s c.join_halves.auto.word
     (joined_products c.requires.1 (c.join_halves.ensures.joins h))

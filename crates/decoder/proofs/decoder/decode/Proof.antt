@@ -7,7 +7,6 @@ use lib.ListN.{length, take, replicate}
 use lib.Pow.{pow_mono}
 use lib.Seq.{length-take-le}
 use borrow.Author.Rules.{rules}
-use Rattle.vector.specs.Frame.{largest}
 use Rattle.vector.proofs.FrameLaws.{largest_is, largest_most}
 use Rattle.polar_code.specs.Code.{Code, code_of}
 use Rattle.scms.specs.Mode.{cap_of}

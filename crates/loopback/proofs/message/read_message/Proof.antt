@@ -1,14 +1,14 @@
 -- `read_message` meets its contract: what is read before place j, and the message from j on, are the whole message.
-use mathlib.Core.Path.{◌≡◌, refl, sym, ap, ◌∙◌}
+use mathlib.Core.Path.{refl, sym, ap, ◌∙◌}
 use mathlib.Core.Logic.{⊎_elim}
 use mathlib.Core.List.{List, ◌++◌, append-nil}
 use Prim.Native.Nat.{ℕ, ◌-◌, ◌<◌}
 use native.Mathlib.Omega.{arith}
 use borrow.Author.Rules.{rules}
-use lib.ListN.{length, get_or, take, drop, drop_of_length-le}
+use lib.ListN.{length, take, drop, drop_of_length-le}
 use lib.Seq.{take_all}
 use Rattle.polar.specs.Message.{message_of}
-use Rattle.polar_code.specs.Code.{kind_of, message_places}
+use Rattle.polar_code.specs.Code.{message_places}
 use Rattle.loopback.proofs.ReadLaws.{ReadTo, as_read, room_left, read_more, read_past}
 use Rattle.loopback.proofs.message.read_message.Statement.{statement}
 use Rattle.loopback.proofs.message.read_message.Tie as tie

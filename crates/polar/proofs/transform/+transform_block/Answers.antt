@@ -1,7 +1,6 @@
 -- `transform_block` meets its contract: the halves are transformed, one layer less each, and then joined (BlockLaws),
 -- down to two places, whose halves stay as they are.
-use Rattle.std.proofs.Common.{◌≡◌, ℕ, ◌+◌, ◌-◌, ◌≤◌, ◌<◌, ◌∙◌, arith, length, take, drop, List, ◌++◌}
-use Rattle.vector.proofs.LentParts.{tail, lent_long, lent_whole}
+use Rattle.std.proofs.Common.{◌≡◌, ℕ, ◌-◌, ◌<◌, arith}
 use Rattle.polar.proofs.JoinLaws.{joined_products}
 use Rattle.polar.proofs.BlockLaws.{at_leaf, at_pair_given, at_pair, at_sizes, at_first, at_second, at_joins, at_transformed}
 use Rattle.polar.proofs.transform.+transform_block.Goals as goal

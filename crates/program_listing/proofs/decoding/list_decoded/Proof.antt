@@ -1,11 +1,10 @@
 -- `list_decoded` meets its contract: what the decoder leaves makes the listing.
-use mathlib.Core.Path.{◌≡◌, sym, ap, ◌∙◌}
+use mathlib.Core.Path.{sym, ap, ◌∙◌}
 use Prim.Native.Nat.{ℕ, ◌*◌}
 use native.Mathlib.Omega.{arith}
-use lib.ListN.{length}
 use lib.Pow.{pow_mono}
-use Rattle.polar_code.specs.Code.{Code, code_of}
-use Rattle.decoder_refusal.specs.Refusals.{Lent, lent_of}
+use Rattle.polar_code.specs.Code.{code_of}
+use Rattle.decoder_refusal.specs.Refusals.{lent_of}
 use Rattle.program_listing.specs.Listing.{listing_length}
 use Rattle.program_listing.proofs.ListingLaws.{listing_made}
 use borrow.Author.Rules.{rules}

@@ -2,7 +2,6 @@
 use mathlib.Core.Path.{sym, ap, ◌∙◌}
 use mathlib.Core.Bool.{not}
 use native.Mathlib.Omega.{arith}
-use borrow.Author.Tests.{not-false}
 use Rattle.refusal.proofs.Laws.{row_fits, row_passed, none_accepted}
 use Rattle.refusal.proofs.Within.{unequal_true, equal_false}
 use Rattle.sheet.specs.FrameLine.{line_llrs}

@@ -1,5 +1,4 @@
 -- `place_llrs` meets its contract: in each of its three cases the part is the one that the definition names (PartLaws).
-use Prim.Native.Nat.{◌-◌}
 use Rattle.vector.proofs.PartLaws.{ragged, beyond, there, empty_handed, part_handed}
 use borrow.Author.Rules.{rules}
 use Rattle.vector.proofs.part.place_llrs.Statement.{statement}
