@@ -384,7 +384,7 @@ def main():
     parser = argparse.ArgumentParser(description=__doc__.split("\n")[0])
     parser.add_argument("--seed", type=int, default=73)
     parser.add_argument("--pairs", type=int, default=600)
-    parser.add_argument("--program", default="target/bin/decode")
+    parser.add_argument("--program", default="crates/decode/out/decode")
     given = parser.parse_args()
     program = os.path.abspath(given.program)
     if not os.path.isfile(program):

@@ -158,7 +158,7 @@ def main():
     parser.add_argument("--seed", type=int, default=101)
     parser.add_argument("--pairs", type=int, default=400)
     parser.add_argument("--writer", default="target/write_files")
-    parser.add_argument("--program", default="target/bin/decode")
+    parser.add_argument("--program", default="crates/decode/out/decode")
     given = parser.parse_args()
     writer, program = os.path.abspath(given.writer), os.path.abspath(
         given.program)

@@ -27,7 +27,7 @@ check_tried m theta ordered =
     let cs = tried m ordered in tabulate 64 (λ b. least_over cs (sum_at theta ordered b))
 
 -- a check node that tries m values: value b gets the least, over the m values c whose φ penalty, counted at h ⊙ c, is
--- smallest, ties to the smaller c, of θ's penalty at b ⊕ c plus φ's at h ⊙ c. With m = 64 it is `checkNode`
+-- smallest, ties to the smaller c, of θ's penalty at b ⊕ c plus φ's at h ⊙ c. With m = 64 it is `check_node`
 unfoldable pub check_node_by : (m h : ℕ) (theta phi : List ℕ) → List ℕ
 check_node_by m h theta phi = check_tried m theta (ordered h phi)
 
