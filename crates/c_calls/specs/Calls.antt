@@ -1,5 +1,5 @@
--- What `zithejo_decode` promises, and what the calls on a base do. The other calls promise what `encode` of polar, `demap`
--- of demapper, and `write_sheet` and `write_frame_line` of writer do.
+-- What `zithejo_decode` promises, and what the calls on a base do. The other calls promise what `encode` of polar,
+-- `demap` of demapper, and `write_sheet` and `write_frame_line` of writer do.
 use Rattle.std.specs.Prelude.{ℕ, ◌≡◌, List, [], ◌∷◌}
 use Rattle.refusal.specs.Returned.{Returned}
 use Rattle.polar_code.specs.Code.{Code}

@@ -16,7 +16,7 @@ wrapped a = a % 65536
 abbrev pub Words : List ℕ → Type 0
 Words d = AtMost 65535 d
 
--- the value of step k; the step of value c is byColumns c too
+-- the value of step k; the step of value c is by_columns c too
 unfoldable pub by_columns : ℕ → ℕ
 by_columns k = 8 * (k % 8) + k / 8
 

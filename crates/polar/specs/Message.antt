@@ -1,4 +1,4 @@
--- The message in a word before the transform: reading it undoes Encode.wordBefore, for messages of K symbols.
+-- The message in a word before the transform: reading it undoes Encode.word_before, for messages of K symbols.
 use Rattle.std.specs.Prelude.{ℕ, List, [], ◌∷◌, get_or, drop}
 use Rattle.polar_code.specs.Code.{kind_of}
 use Rattle.polar_code.specs.declared.kinds.Kind.{Kind}

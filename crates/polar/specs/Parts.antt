@@ -2,7 +2,7 @@
 use Rattle.std.specs.Prelude.{ℕ, zero, suc, ◌+◌, ◌/◌, ◌^◌, ◌≤◌, ◌≡◌, List, length}
 use Rattle.polar_code.specs.Code.{message_places}
 
--- the coefficients of a block (Halves.coefsAt) are among n
+-- the coefficients of a block (Halves.coefs_at) are among n
 unfoldable pub Room : (m start stride n : ℕ) → Type 0
 Room zero start stride n = Unit {0}
 Room (suc m) start stride n =

@@ -1,6 +1,5 @@
 -- `least_of` meets its contract: m is the least of the entries before b, and entry 0 where there is none.
 use mathlib.Core.Path.{◌≡◌, refl, ap, ◌∙◌}
-use mathlib.Core.Logic.{⊎_elim}
 use Prim.Native.Nat.{ℕ, ◌-◌, ◌≤◌}
 use native.Mathlib.Omega.{arith}
 use borrow.Author.Rules.{rules}
@@ -24,16 +23,6 @@ loop-holds : tie.Need-loop-b-init invariant-loop decreases-loop
 unfolding least_to
 loop-holds c = (omega arith, refl)
 
-loop-again : tie.Need-loop-b-preserved invariant-loop decreases-loop
-loop-again c =
-    let v = (entry c.before.before.before.before).args.v.now in
-    let at = c.loop-b in
-    let m = least_next at.b at.m (λ i. get_or v i 0) at.invariant.1 in
-    ⊎_elim
-    (λ w. (omega arith, w.m-is ∙ m.0 w.if-x-m.true))
-    (λ w. (omega arith, w.m-is ∙ m.1 w.if-x-m.false))
-    c.if-x-m.branch-raw
-
 returns : tie.Need-returns invariant-loop decreases-loop
 unfolding least
 returns c =
@@ -48,4 +37,9 @@ least_of_spec =
     (λ c. search rules)
     loop-holds
     (λ c. search rules) (λ c. search rules) (λ c. search rules) (λ c. search rules)
-    loop-again returns)
+    -- that the entry or what was least before is the least is found by the search, from the branch that was taken
+    (λ c.
+    let v = c.args.v.now in
+    let m = least_next c.loop-b.b c.loop-b.m (λ i. get_or v i 0) c.loop-b.invariant.1 in
+    (omega arith, grind (arith, m.0, m.1)))
+    returns)

@@ -1,6 +1,5 @@
 -- `least_apart` meets its contract: `least` is the least distance of the shifts 1 to i.
 use mathlib.Core.Path.{◌≡◌, ap, ◌∙◌}
-use mathlib.Core.Logic.{⊎_elim}
 use Prim.Native.Nat.{ℕ, ◌+◌, ◌-◌, ◌≤◌}
 use native.Mathlib.Omega.{arith}
 use Rattle.vector.specs.Vector.{least_to}
@@ -24,17 +23,6 @@ loop-holds : tie.Need-loop-i-init invariant-loop decreases-loop
 unfolding least_to
 loop-holds c = (omega arith, c.chips_apart-least.ensures)
 
-loop-again : tie.Need-loop-i-preserved invariant-loop decreases-loop
-loop-again c =
-    let base = c.args.base in
-    let at = c.loop-i in
-    let e = c.chips_apart-chips.ensures in
-    let m = least_next at.i at.least (distance_from1 base) at.invariant.1 in
-    ⊎_elim
-    (λ w. let t = w.if-chips-least.true in (omega arith, w.least-is ∙ e ∙ m.0 (omega arith)))
-    (λ w. let t = w.if-chips-least.false in (omega arith, w.least-is ∙ m.1 (omega arith)))
-    c.if-chips-least.branch-raw
-
 returns : tie.Need-returns invariant-loop decreases-loop
 unfolding least_distance
 returns c =
@@ -48,4 +36,9 @@ least_apart_spec =
     (λ c κs. search rules)
     loop-holds
     (λ c. search rules) (λ c κs. search rules) (λ c. search rules) (λ c. search rules)
-    loop-again returns)
+    -- that the distance or what was least before is the least is found by the search, from the branch that was taken
+    (λ c.
+    let e = c.chips_apart-chips.ensures in
+    let m = least_next c.loop-i.i c.loop-i.least (distance_from1 c.args.base) c.loop-i.invariant.1 in
+    (omega arith, grind (arith, e, m.0, m.1)))
+    returns)

@@ -22,15 +22,6 @@ decreases-loop v from run first count by r₀ i₀ r i = count - i
 abbrev entry : tie.At-loop-i invariant-loop decreases-loop → tie.Start invariant-loop decreases-loop
 entry c = c.before.before.before.before
 
-returns : tie.Need-returns-then-count-gt64 invariant-loop decreases-loop
-returns c = record { replaced = λ e l m. absurd (omega arith); kept = λ l. refl }
-
-returns-2 : tie.Need-returns-then-count-first invariant-loop decreases-loop
-returns-2 c = record { replaced = λ e l m. absurd (omega arith); kept = λ l. refl }
-
-returns-3 : tie.Need-returns-then-count-from invariant-loop decreases-loop
-returns-3 c = record { replaced = λ e l m. absurd (omega arith); kept = λ l. refl }
-
 loop-holds : tie.Need-loop-i-init invariant-loop decreases-loop
 loop-holds c = (omega arith, λ e. map_none (omega arith) e)
 
@@ -56,8 +47,8 @@ loop-again c =
       λ e. map_more (head.loop-i.invariant.1 e) (omega arith) (omega arith) (omega arith) (ap (λ (n : ℕ). get_or a.v.now ((a.from + n) ⊕ (a.run % 64)) 0) k),
     )
 
-returns-4 : tie.Need-returns invariant-loop decreases-loop
-returns-4 c = record {
+returns : tie.Need-returns invariant-loop decreases-loop
+returns c = record {
   replaced = λ e l m. map_all (c.loop-i.invariant.1 e) (omega arith);
   kept = λ o. ⊎_elim (λ l. absurd (omega arith)) (λ l. absurd (omega arith)) o;
 }
@@ -65,8 +56,13 @@ returns-4 c = record {
 pub part_replaced_spec : {M : Type 1} → statement M
 part_replaced_spec =
     tie.close
-    (tie.spec invariant-loop decreases-loop returns returns-2 returns-3 loop-holds
+    (tie.spec invariant-loop decreases-loop
+    -- a part that is not one of 64 entries is left: that there is none of the other kind is found by the search
+    (λ c. record { replaced = λ e l m. absurd (omega arith); kept = λ l. refl })
+    (λ c. record { replaced = λ e l m. absurd (omega arith); kept = λ l. refl })
+    (λ c. record { replaced = λ e l m. absurd (omega arith); kept = λ l. refl })
+    loop-holds
     (λ c. search rules)
     mul-r element-copy-out-r
     (λ c. search rules) (λ c. search rules) (λ c. search rules) (λ c. search rules) (λ c. search rules)
-    loop-again returns-4)
+    loop-again returns)
