@@ -1,6 +1,6 @@
 -- `transform_block` meets its contract: the halves are transformed, one layer less each, and then joined (BlockLaws),
 -- down to two places, whose halves stay as they are.
-use Rattle.std.proofs.Common.{◌≡◌, ℕ, ◌-◌, ◌<◌, arith}
+use Rattle.std.proofs.Common.{rules, ◌≡◌, ℕ, ◌-◌, ◌<◌, arith}
 use Rattle.polar.proofs.JoinLaws.{joined_products}
 use Rattle.polar.proofs.BlockLaws.{at_leaf, at_pair_given, at_pair, at_sizes, at_first, at_second, at_joins, at_transformed}
 use Rattle.polar.proofs.transform.+transform_block.Goals as goal
@@ -15,11 +15,14 @@ returns-then-layers-eq0 t c = at_leaf c.if-layers-eq0.true c.requires.0
 
 -- two places
 pub join_kernels-requires : goal.join_kernels-requires
-join_kernels-requires t c = at_pair_given c.if-layers-eq1.true c.requires.0
+join_kernels-requires t c =
+    let one : c.args.layers ≡ 1 = search rules in
+    at_pair_given one c.requires.0
 
 pub returns-then-layers-eq1 : goal.returns-then-layers-eq1
 returns-then-layers-eq1 t c =
-    at_pair c.if-layers-eq1.true c.requires.0 c.join_kernels.new.word c.join_kernels.auto.word
+    let one : c.args.layers ≡ 1 = search rules in
+    at_pair one c.requires.0 c.join_kernels.new.word c.join_kernels.auto.word
     (joined_products c.requires.1 c.join_kernels.ensures)
 
 -- where the coefficients of the halves begin
