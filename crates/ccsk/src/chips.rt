@@ -8,7 +8,5 @@ ghost use Rattle.ccsk.specs.Chips.{turned};
 pub fn turned(base: u64, s: u64) -> u64
     ensures { result ≡ turned base s }
 {
-    let down = s % 64;
-    let up = (64 - down) % 64;
-    (base >> down) | (base << up)
+    base.rotate_right((s % 64) as u32)
 }

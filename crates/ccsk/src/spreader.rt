@@ -1,17 +1,21 @@
 // Spreading: symbols to the numbers that they are sent as.
 ghost use Rattle.std.specs.Prelude.{◌≡◌, length};
+ghost use Rattle.refusal.specs.Kinds.{number};
 ghost use Rattle.ccsk.specs.Spread.{numbers_of, spread_refusal, Spread};
 
 use crate::chips::turned;
+use refusal::{Refusal, any_outside, require};
 
-// The number by which `spread` refuses, 0 where it accepts its input: the first test that fits, in document 01's order.
-fn spread_refusal(base: u64, symbols: &[u8], numbers: &[u64]) -> u8
-    ensures { result ≡ spread_refusal base symbols.now numbers.now }
+// Goes down the table of `spread`, in document 01's order.
+#[tactic(auto, unfolding(refusal::specs::Table::refusal_of, refusal::specs::Tests::outside, refusal::specs::Tests::unequal, crate::specs::Spread::spread_refusal))]
+fn check(base: u64, symbols: &[u8], numbers: &[u64]) -> Result<(), Refusal>
+    ensures { number result ≡ spread_refusal base symbols.now numbers.now }
 {
-    let r = refusal::first(0, 2, refusal::is_size_outside(symbols.len(), 1, 256));
-    let r = refusal::first(r, 2, numbers.len() != symbols.len());
-    let r = refusal::first(r, 7, refusal::any_outside(symbols, 0, 63));
-    refusal::first(r, 10, turned(base, 32) == base)
+    require((1..=256).contains(&symbols.len()), Refusal::Length)?;
+    require(numbers.len() == symbols.len(), Refusal::Length)?;
+    require(!any_outside(symbols, 0, 63), Refusal::Symbol)?;
+    require(turned(base, 32) != base, Refusal::Base)?;
+    Ok(())
 }
 
 // Writes the number that each symbol is sent as.
@@ -19,24 +23,19 @@ fn write_numbers(base: u64, symbols: &[u8], numbers: &mut [u64])
     requires { length numbers.old ≡ length symbols.now }
     ensures { numbers.new ≡ numbers_of base symbols.now }
 {
-    let mut i: usize = 0;
-    while i < symbols.len() {
-        let s = symbols[i];
-        numbers[i] = turned(base, s as u64);
-        i += 1;
+    for (i, symbol) in symbols.iter().enumerate() {
+        numbers[i] = turned(base, u64::from(*symbol));
     }
 }
 
 // Spreads symbols to chips: each is sent as the base turned by its value, one 64-bit number a symbol, whose chip k is
-// bit k. Returns 0 and the numbers in the buffer lent for them; or the lowest refusal of 2, 7 and 10 that fits, and the
-// buffer as it came.
-pub fn spread(base: u64, symbols: &[u8], numbers: &mut [u64]) -> u8
-    ensures { Spread base symbols.now numbers.old numbers.new result }
+// bit k. The numbers are then in the buffer lent for them. Refuses by the lowest of Length (2), Symbol (7) and Base (10)
+// that fits, and leaves the buffer as it came.
+#[tactic(auto, using(crate::proofs::SpreadLaws::accepted, refusal::proofs::KindLaws::left_kept, refusal::proofs::KindLaws::left_made), unfolding(crate::specs::Spread::spread_buffer))]
+pub fn spread(base: u64, symbols: &[u8], numbers: &mut [u64]) -> Result<(), Refusal>
+    ensures { Spread base symbols.now numbers.old numbers.new (number result) }
 {
-    let refused = spread_refusal(base, symbols, numbers);
-    if refused != 0 {
-        return refused;
-    }
+    check(base, symbols, numbers)?;
     write_numbers(base, symbols, numbers);
-    0
+    Ok(())
 }

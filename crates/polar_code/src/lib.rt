@@ -4,10 +4,8 @@
 
 mod code;
 mod kinds;
-mod places;
 mod sizes;
 
-pub use code::{code_refusal, size_refusal};
-pub use kinds::{Kind, kind_of};
-pub use places::message_places;
+pub use code::Code;
+pub use kinds::{Kind, message_places};
 pub use sizes::{kernel_count, place_count};

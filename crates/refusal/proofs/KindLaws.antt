@@ -1,0 +1,47 @@
+-- The numbers of refusals, and a table that a call goes down in parts.
+use Rattle.std.proofs.Common.{◌≡◌, ℕ, List, ◌++◌, ◌∙◌, sym, cond, eqb}
+use native.Mathlib.Omega.{arith}
+use lib.Dec.{T}
+use Rattle.refusal.specs.Table.{Row, refusal_of}
+use Rattle.refusal.specs.Kinds.{number_of}
+use Rattle.refusal.specs.declared.kinds.Refusal.{Refusal}
+use Rattle.refusal.specs.declared.kinds.Refusal.TheVariants.{Layers, Length, Precision, MapByte, NoMessagePlace, Coefficient, Symbol}
+use Rattle.refusal.specs.declared.kinds.Refusal.TheVariants.{Penalty, NoZero, Base, Gain, Form, Candidates, Amplitude}
+use Rattle.refusal.proofs.Laws.{first_accepted, first_refused, when_accepted, when_refused}
+use Rattle.refusal.proofs.WalkLaws.{numberedb, numbered}
+
+-- no refusal has the number 0, which is kept for 'accepted'
+pub number_nonzero : (r : Refusal) → number_of r ≡ 0 → ⊥
+number_nonzero Layers e = omega arith
+number_nonzero Length e = omega arith
+number_nonzero Precision e = omega arith
+number_nonzero MapByte e = omega arith
+number_nonzero NoMessagePlace e = omega arith
+number_nonzero Coefficient e = omega arith
+number_nonzero Symbol e = omega arith
+number_nonzero Penalty e = omega arith
+number_nonzero NoZero e = omega arith
+number_nonzero Base e = omega arith
+number_nonzero Gain e = omega arith
+number_nonzero Form e = omega arith
+number_nonzero Candidates e = omega arith
+number_nonzero Amplitude e = omega arith
+
+module _ (rs ss : List Row) where
+  -- the first part of a table refuses: so does the whole
+  pub part_refused : (r : Refusal) → number_of r ≡ refusal_of rs → number_of r ≡ refusal_of (rs ++ ss)
+  part_refused r e = first_refused rs ss e (number_nonzero r)
+
+  -- it accepts: the rest of the table decides
+  pub part_passed : T (numberedb rs) → 0 ≡ refusal_of rs → {r : ℕ} → r ≡ refusal_of ss → r ≡ refusal_of (rs ++ ss)
+  part_passed n e f = first_accepted rs ss (numbered rs n) (sym e) f
+
+-- what a call leaves of a lent buffer, by the number n of its table: `made` where it accepts, and else `kept`
+module _ {A : Type 0} (made kept : A) {n : ℕ} where
+  -- the call has refused
+  pub left_kept : (r : Refusal) → number_of r ≡ n → kept ≡ cond (eqb n 0) made kept
+  left_kept r e = sym (when_refused n made kept (λ z. number_nonzero r (e ∙ z)))
+
+  -- it has not
+  pub left_made : 0 ≡ n → made ≡ cond (eqb n 0) made kept
+  left_made e = sym (when_accepted n made kept (sym e))
