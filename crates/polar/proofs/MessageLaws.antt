@@ -8,6 +8,8 @@ use native.Mathlib.Numerals.{add-one}
 use native.Mathlib.Omega.{arith}
 use lib.Dec.{eqb, lit<}
 use lib.ListN.{length, get_or, take, drop, set, length-set}
+use Rattle.std.proofs.Common.{Option, None, Some, Bor, Iter, MatchOption, option_copied, unwrap_or}
+use Rattle.std.proofs.lemmas.List.{nil_from_length}
 use lib.Seq.{drop-cons, drop-drop, get_or-drop, take-suc-set, append_snoc}
 use Rattle.polar_code.specs.Code.{kind_of, message_count, message_places}
 use Rattle.polar_code.specs.declared.kinds.Kind.{Kind}
@@ -81,29 +83,26 @@ module _ (map : List ℕ) (i : ℕ) (l : i < length map) {k : Kind} (e : kind_of
       ∙ sym (append_snoc (take i word) (symbol_at k symbols) (word_before (drop (suc i) map) (rest_after k symbols)))
       ∙ ap (λ (x : List ℕ). x ++ word_before (drop (suc i) map) (rest_after k symbols)) (sym (take-suc-set word i (symbol_at k symbols) s))
 
--- how far placing has come at place j: the word is right before it, and `next` symbols are used up
-abbrev pub PlacedTo : (map symbols before word : List ℕ) (next j : ℕ) → Type 0
-PlacedTo map symbols before word next j =
-    (j ≤ length map) × (length word ≡ length before) × (next + message_places (drop j map) ≡ length symbols)
-    × (word_before map symbols ≡ take j word ++ word_before (drop j map) (drop next symbols))
-
--- one place more
-module _ (map symbols before word : List ℕ) (next j : ℕ) {kind : Kind} (l : j < length map) (s : j < length word) (e : kind_of (get_or map j 0) ≡ kind) where
+-- one place more: what is written before place j, and the word that the map makes from j on of the symbols that are left,
+-- stay the whole word
+module _ (map word left : List ℕ) (j : ℕ) {kind : Kind} (l : j < length map) (s : j < length word) (e : kind_of (get_or map j 0) ≡ kind) where
   -- the symbol stored is the one of the place's kind
-  pub place_more : (word' : List ℕ) (next' : ℕ) → word' ≡ set word j (symbol_at kind (drop next symbols)) → next' ≡ next + message_count kind
-      → rest_after kind (drop next symbols) ≡ drop next' symbols → PlacedTo map symbols before word next j → PlacedTo map symbols before word' next' (j + 1)
-  place_more word' next' ew en es h =
-      let p = places_from map j l e in
-      let q = ap (λ (x : ℕ). message_places (drop x map)) (add-one j) in (
-        omega arith,
-        ap length ew ∙ length-set word j (symbol_at kind (drop next symbols)) ∙ h.1,
-        (let r = h.2 in omega arith),
-        h.3 ∙ word_from map j l e (drop next symbols) word s
-            ∙ ap₂ (λ (w x : List ℕ). take (suc j) w ++ word_before (drop (suc j) map) x) (sym ew) es
-            ∙ ap (λ (x : ℕ). take x word' ++ word_before (drop x map) (drop next' symbols)) (sym (add-one j)),
-      )
+  pub place_more : {x : ℕ} {after whole : List ℕ} → x ≡ symbol_at kind left → after ≡ rest_after kind left
+      → take j word ++ word_before (drop j map) left ≡ whole → take (j + 1) (set word j x) ++ word_before (drop (j + 1) map) after ≡ whole
+  place_more {x} {after} ex ea h =
+      ap (λ (i : ℕ). take i (set word j x) ++ word_before (drop i map) after) (add-one j)
+      ∙ ap₂ (λ (y : ℕ) (z : List ℕ). take (suc j) (set word j y) ++ word_before (drop (suc j) map) z) ex ea
+      ∙ sym (word_from map j l e left word s) ∙ h
 
--- the next symbol of those that are left
+-- the next symbol of those that are left, 0 where none is, and those left after it
+pub next_symbol : (r : Option (Bor ℕ)) (left after : Iter ℕ)
+    → MatchOption r ((length left.rest.now ≡ 0) × (after ≡ left)) (λ y. left.rest.now ≡ y.now ∷ after.rest.now)
+    → (unwrap_or (option_copied r) 0 ≡ symbol_at message left.rest.now) × (after.rest.now ≡ rest_after message left.rest.now)
+unfolding symbol_at rest_after
+next_symbol None left after h = let none = nil_from_length left.rest.now h.0 in (rw none refl, ap (λ (i : Iter ℕ). i.rest.now) h.1 ∙ none ∙ sym (ap (drop 1) none))
+next_symbol (Some y) left after h = (rw h refl, rw h refl)
+
+-- the next symbol of those that are left, by its index
 pub next_placed : (symbols : List ℕ) (next : ℕ) → symbol_at message (drop next symbols) ≡ get_or symbols next 0
 unfolding symbol_at
 next_placed symbols next = get_or-drop next symbols 0 0 ∙ ap (λ (x : ℕ). get_or symbols x 0) (add-zero next)

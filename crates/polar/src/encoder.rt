@@ -1,39 +1,44 @@
 // The encoder: a message to its codeword.
 ghost use Rattle.std.specs.Prelude.{◌≡◌};
-ghost use Rattle.polar_code.specs.Code.{code_of};
+ghost use Rattle.refusal.specs.Kinds.{number};
 ghost use Rattle.polar.specs.Encode.{encode_refusal, Encoded};
 
 use crate::places::place_message;
 use crate::transform::transform_block;
-use polar_code::{code_refusal, message_places, place_count, size_refusal};
+use polar_code::{Code, message_places};
+use refusal::{Refusal, any_outside, require};
 
-// The number by which `encode` refuses, 0 where it accepts its input: the first test that fits, in document
-// 01's order.
-fn encode_refusal(n: usize, map: &[u8], coefs: &[u8], message: &[u8], codeword: &[u8]) -> u8
-    ensures { result ≡ encode_refusal (code_of n map.now coefs.now) message.now
-        codeword.now }
+// Goes down the table of `encode`, in document 01's order.
+#[tactic(auto, unfolding(
+    refusal::specs::Table::refusal_of,
+    refusal::specs::Tests::unequal,
+    crate::specs::Encode::encode_refusal
+))]
+fn check(code: &Code, message: &[u8], codeword: &[u8]) -> Result<(), Refusal>
+    ensures { number result ≡ encode_refusal code.now message.now codeword.now }
 {
-    let r = size_refusal(n, map, coefs);
-    let r = refusal::first(r, 2, message.len() != message_places(map));
-    let r = refusal::first(r, 2, codeword.len() != place_count(n));
-    let r = refusal::or_else(r, code_refusal(map, coefs));
-    refusal::first(r, 7, refusal::any_outside(message, 0, 63))
+    code.check_sizes()?;
+    require(message.len() == message_places(code.map), Refusal::Length)?;
+    require(codeword.len() == code.map.len(), Refusal::Length)?;
+    code.check_bytes()?;
+    require(!any_outside(message, 0, 63), Refusal::Symbol)?;
+    Ok(())
 }
 
-// Encodes a message: its symbols fill the message places of the map, and the transform by n layers turns that word into
-// the codeword. Returns 0 and the codeword in the buffer lent for it; or the lowest refusal of 1, 2, 4, 5, 6 and 7 that
-// fits, and the buffer as it came.
-pub fn encode(n: usize, map: &[u8], coefs: &[u8], message: &[u8], codeword: &mut [u8]) -> u8
-    ensures { Encoded (code_of n map.now coefs.now) message.now
-        codeword.old codeword.new result }
+// Encodes a message: its symbols fill the message places of the map, and the transform turns that word into the
+// codeword, which is then in the buffer lent for it. Refuses by the lowest of Layers (1), Length (2), MapByte (4),
+// NoMessagePlace (5), Coefficient (6) and Symbol (7) that fits, and leaves the buffer as it came.
+#[tactic(auto, using(
+    refusal::proofs::KindLaws::left_kept,
+    refusal::proofs::KindLaws::left_made
+), unfolding(crate::specs::Encode::encode_buffer))]
+pub fn encode(code: &Code, message: &[u8], codeword: &mut [u8]) -> Result<(), Refusal>
+    ensures { Encoded code.now message.now codeword.old codeword.new (number result) }
 {
-    let refused = encode_refusal(n, map, coefs, message, codeword);
-    if refused != 0 {
-        return refused;
-    }
-    let half = map.len() / 2;
-    place_message(map, message, codeword);
+    check(code, message, codeword)?;
+    let half = code.map.len() / 2;
+    place_message(code.map, message, codeword);
     let table = gf64::products();
-    transform_block(n, half, 0, half, coefs, &table, codeword);
-    0
+    transform_block(code.n, half, 0, half, code.coefs, &table, codeword);
+    Ok(())
 }

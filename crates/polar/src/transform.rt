@@ -14,15 +14,12 @@ fn join_kernels(half: usize, start: usize, coefs: &[u8], table: &Products, word:
     ensures { JoinedWith (entry_of table.now) half start coefs.now word.old
         word.new }
 {
-    let mut t: usize = 0;
-    while t < half {
+    for t in 0..half {
         let theta = t;
         let phi = half + t;
-        let p = word[theta];
         let r = word[phi];
-        word[theta] = p ^ r;
+        word[theta] ^= r;
         word[phi] = product_from(table, coefs[start + t], r);
-        t += 1;
     }
 }
 
@@ -80,20 +77,8 @@ pub fn join_halves(half: usize, start: usize, coefs: &[u8], table: &Products, wo
     ensures { HalvesJoined half start coefs.now table.now word.old
         word.new }
 {
-    if 128 < half {
-        return;
+    let few = half <= 128 && coefs.len() <= 1024;
+    if few && word.len() == half + half && half <= coefs.len() && start <= coefs.len() - half {
+        join_kernels(half, start, coefs, table, word);
     }
-    if 1024 < coefs.len() {
-        return;
-    }
-    if coefs.len() < half {
-        return;
-    }
-    if coefs.len() - half < start {
-        return;
-    }
-    if word.len() != half + half {
-        return;
-    }
-    join_kernels(half, start, coefs, table, word);
 }

@@ -1,6 +1,6 @@
 // A code as a call is given it, and what it is refused by: its layers and lengths, and the bytes of the frozen map and
 // the coefficients.
-ghost use Rattle.std.specs.Prelude.{◌≡◌};
+ghost use Rattle.std.specs.Prelude.{◌≡◌, ◌≤◌, ◌^◌, OnOk, length};
 ghost use Rattle.refusal.specs.Table.{refusal_of};
 ghost use Rattle.refusal.specs.Kinds.{number};
 ghost use Rattle.polar_code.specs.Code as specs;
@@ -33,7 +33,9 @@ impl<'a> Code<'a> {
     // 2^n bytes or there are not n × 2^n/2 coefficients. The bytes are not judged.
     #[tactic(auto, unfolding(refusal::specs::Table::refusal_of, refusal::specs::Tests::outside, refusal::specs::Tests::unequal, crate::specs::Sizes::places_of, crate::specs::Sizes::kernels_of))]
     pub fn check_sizes(&self) -> Result<(), Refusal>
-        ensures { number result ≡ refusal_of (code_sizes self.now) }
+        ensures refusal { number result ≡ refusal_of (code_sizes self.now) }
+        ensures layers { OnOk result (self.now.n ≤ 8) }
+        ensures places { OnOk result (length self.now.map ≡ 2 ^ self.now.n) }
     {
         require((1..=8).contains(&self.n), Refusal::Layers)?;
         require(self.map.len() == place_count(self.n), Refusal::Length)?;
