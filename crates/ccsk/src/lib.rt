@@ -4,5 +4,5 @@
 mod chips;
 mod spreader;
 
-pub use chips::turned;
+pub use chips::{check_base, turned};
 pub use spreader::spread;

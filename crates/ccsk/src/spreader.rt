@@ -3,7 +3,7 @@ ghost use Rattle.std.specs.Prelude.{◌≡◌, length};
 ghost use Rattle.refusal.specs.Kinds.{number};
 ghost use Rattle.ccsk.specs.Spread.{numbers_of, spread_refusal, Spread};
 
-use crate::chips::turned;
+use crate::chips::{check_base, turned};
 use refusal::{Refusal, any_outside, require};
 
 // Goes down the table of `spread`, in document 01's order.
@@ -14,7 +14,7 @@ fn check(base: u64, symbols: &[u8], numbers: &[u64]) -> Result<(), Refusal>
     require((1..=256).contains(&symbols.len()), Refusal::Length)?;
     require(numbers.len() == symbols.len(), Refusal::Length)?;
     require(!any_outside(symbols, 0, 63), Refusal::Symbol)?;
-    require(turned(base, 32) != base, Refusal::Base)?;
+    check_base(base)?;
     Ok(())
 }
 

@@ -1,5 +1,5 @@
 -- What `demap` promises.
-use Rattle.std.specs.Prelude.{ℕ, ◌/◌, ◌%◌, ◌≡◌, cond, List, [], ◌∷◌, eqb, ℤ, length}
+use Rattle.std.specs.Prelude.{ℕ, ◌/◌, ◌%◌, ◌≡◌, cond, List, [], ◌∷◌, ◌++◌, eqb, ℤ, length}
 use Rattle.refusal.specs.Table.{Row, refusal_of}
 use Rattle.refusal.specs.Tests.{outside, unequal, Within}
 use Rattle.refusal.specs.Rows.{length_row, qc_row}
@@ -19,17 +19,17 @@ whole_row count = (2, unequal (count % 64) 0)
 abbrev pub gain_row : ℕ → Row
 gain_row part = (11, outside 1 255 part)
 
--- the rows of document 01's table that `demap` has the input for, in its order; of the samples only their number counts
+-- the rows on the samples and the buffer; of the samples only their number counts
+abbrev pub length_rows : (number : ℕ) → List ℕ → List Row
+length_rows number buffer = whole_row number ∷ count_row (number / 64) ∷ length_row (length buffer) number ∷ []
+
+-- the rows on the precision, the base and the gain
+abbrev pub setting_rows : (base top bottom qc : ℕ) → List Row
+setting_rows base top bottom qc = qc_row qc ∷ base_row base ∷ gain_row top ∷ gain_row bottom ∷ []
+
+-- the rows of document 01's table that `demap` has the input for, in its order
 abbrev pub demap_table : (base top bottom qc : ℕ) → (number : ℕ) → List ℕ → List Row
-demap_table base top bottom qc number buffer =
-    whole_row number
-    ∷ count_row (number / 64)
-    ∷ length_row (length buffer) number
-    ∷ qc_row qc
-    ∷ base_row base
-    ∷ gain_row top
-    ∷ gain_row bottom
-    ∷ []
+demap_table base top bottom qc number buffer = length_rows number buffer ++ setting_rows base top bottom qc
 
 -- what no row of that table fits
 pub record Demappable (base top bottom qc : ℕ) (samples : List ℤ) (buffer : List ℕ) : Type 0 where

@@ -7,11 +7,8 @@ pub(crate) fn chips_twice(base: u64) -> [u16; 128]
     ensures { result ≡ chips_twice base }
 {
     let mut chips = [0u16; 128];
-    let mut j: usize = 0;
-    while j < 128 {
-        let k = (j % 64) as u64;
-        chips[j] = ((base >> k) % 2) as u16;
-        j += 1;
+    for j in 0..128 {
+        chips[j] = ((base >> (j % 64)) % 2) as u16;
     }
     chips
 }

@@ -3,6 +3,8 @@
 
 mod chips;
 mod demapper;
+mod gain;
 mod samples;
 
 pub use demapper::demap;
+pub use gain::Gain;

@@ -1,9 +1,10 @@
 -- The numbers of refusals, and a table that a call goes down in parts.
-use Rattle.std.proofs.Common.{◌≡◌, ℕ, List, ◌++◌, ◌∙◌, sym, cond, eqb}
+use Rattle.std.proofs.Common.{◌≡◌, ℕ, List, ◌++◌, ◌∙◌, sym, refl, cond, eqb, Result, IsErrAnd}
+use Rattle.std.proofs.lemmas.Result.{err_from_is_err_and}
 use native.Mathlib.Omega.{arith}
 use lib.Dec.{T}
 use Rattle.refusal.specs.Table.{Row, refusal_of}
-use Rattle.refusal.specs.Kinds.{number_of}
+use Rattle.refusal.specs.Kinds.{number_of, number}
 use Rattle.refusal.specs.declared.kinds.Refusal.{Refusal}
 use Rattle.refusal.specs.declared.kinds.Refusal.TheVariants.{Layers, Length, Precision, MapByte, NoMessagePlace, Coefficient, Symbol}
 use Rattle.refusal.specs.declared.kinds.Refusal.TheVariants.{Penalty, NoZero, Base, Gain, Form, Candidates, Amplitude}
@@ -26,6 +27,10 @@ number_nonzero Gain e = omega arith
 number_nonzero Form e = omega arith
 number_nonzero Candidates e = omega arith
 number_nonzero Amplitude e = omega arith
+
+-- the number at the exit of a `?`, from what the exit says of what it returns
+pub exit_number : {A : Type 0} (answer : Result A Refusal) (r : Refusal) → IsErrAnd answer (λ y. y ≡ r) → number answer ≡ number_of r
+exit_number answer r h = let p = err_from_is_err_and answer h in rw (p.1, p.2) refl
 
 module _ (rs ss : List Row) where
   -- the first part of a table refuses: so does the whole
