@@ -3,6 +3,10 @@ use mathlib.Core.Path.{◌≡◌, sym, ap, ap₂, ◌∙◌}
 use mathlib.Core.List.{List, [], ◌∷◌}
 use Prim.Native.Nat.{ℕ}
 use Rattle.refusal.proofs.Laws.{when_accepted, when_refused}
+use Rattle.std.proofs.Common.{Err}
+use Rattle.refusal.specs.Kinds.{number_of, returned}
+use Rattle.refusal.specs.declared.kinds.Refusal.{Refusal}
+use Rattle.refusal.proofs.KindLaws.{number_nonzero}
 use Rattle.distances.specs.Distance.{answered}
 
 module _ {number : ℕ} (value : ℕ) where
@@ -19,3 +23,7 @@ module _ {number : ℕ} (value : ℕ) where
   answered_number {r} e h =
       ap₂ (λ (n : ℕ) (vs : List ℕ). record { number = n; values = vs }) e
       (sym (when_refused number (value ∷ []) [] (λ z. h (e ∙ z))))
+
+  -- the same of a refusal
+  pub answered_err : (r : Refusal) → number_of r ≡ number → returned (Err r) ≡ answered number value
+  answered_err r e = answered_number e (number_nonzero r)

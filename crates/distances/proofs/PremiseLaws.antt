@@ -2,6 +2,7 @@
 use mathlib.Core.Path.{◌≡◌, refl, sym, ap, ap₂, ◌∙◌, subst}
 use mathlib.Core.Bool.{Bool, true, false, cond, ◌||◌}
 use mathlib.Core.List.{List, [], ◌∷◌}
+use Rattle.std.proofs.Common.{Result, Ok, Err}
 use Prim.Native.Nat.{ℕ, ◌*◌, ◌≤◌, ◌<◌}
 use native.Mathlib.Nat.{mul-le-mul_left, mul_assoc, mul_comm, le_trans}
 use native.Mathlib.Omega.{arith}
@@ -15,20 +16,19 @@ use Rattle.refusal.proofs.Within.{inside_within, within_inside, or_left, or_righ
 use Rattle.ccsk.specs.Chips.{differing}
 use Rattle.demapper.specs.Noiseless.{Apart}
 use Rattle.demapper.proofs.NoiselessLaws.{premise_apart, apart_premise}
-use Rattle.distances.specs.declared.premise.Holds.{Holds}
-use Rattle.distances.specs.declared.premise.Holds.TheVariants.{Yes, No, Refused}
+use Rattle.refusal.specs.Kinds.{returned_flag}
+use Rattle.refusal.specs.declared.kinds.Refusal.{Refusal}
 use Rattle.distances.specs.Distance.{least_distance, answered}
 use Rattle.distances.specs.Premise as premise
-use Rattle.distances.specs.Premise.{returned, premise_refusal, premise_fails, premise_answer, PremiseAnswered}
+use Rattle.distances.specs.Premise.{premise_refusal, premise_fails, premise_answer, PremiseAnswered}
 use Rattle.distances.proofs.DistanceLaws.{distance_below, least_bound, least_attained}
 
 -- the answer by its value: 1 is yes, 0 is no
-by_value : (answer : Holds) (value : ℕ) → (returned answer).values ≡ value ∷ []
-    → (value ≡ 1 → answer ≡ Yes) × (value ≡ 0 → answer ≡ No)
-unfolding returned
-by_value Yes value e = ((λ q. refl), (λ q. absurd (let v = ap (λ (vs : List ℕ). get_or vs 0 0) e in omega arith)))
-by_value No value e = ((λ q. absurd (let v = ap (λ (vs : List ℕ). get_or vs 0 0) e in omega arith)), (λ q. refl))
-by_value (Refused number) value e = absurd (let l = ap length e in omega arith)
+by_value : (answer : Result Bool Refusal) (value : ℕ) → (returned_flag answer).values ≡ value ∷ []
+    → (value ≡ 1 → answer ≡ Ok true) × (value ≡ 0 → answer ≡ Ok false)
+by_value (Ok true) value e = ((λ q. refl), (λ q. absurd (let v = ap (λ (vs : List ℕ). get_or vs 0 0) e in omega arith)))
+by_value (Ok false) value e = ((λ q. absurd (let v = ap (λ (vs : List ℕ). get_or vs 0 0) e in omega arith)), (λ q. refl))
+by_value (Err number) value e = absurd (let l = ap length e in omega arith)
 
 -- the gain of an accepted call
 pub gain : (base top bottom : ℕ) → premise_refusal base top bottom ≡ 0 → Within 1 255 top × Within 1 255 bottom
@@ -102,33 +102,32 @@ module _ (base amplitude top bottom : ℕ) where
 
   -- ---- the answer
 
-  module _ (answer : Holds) (is : returned answer ≡ premise_answer base amplitude top bottom) where
+  module _ (answer : Result Bool Refusal) (is : returned_flag answer ≡ premise_answer base amplitude top bottom) where
     -- the value of an accepted call
-    value : Accepted → (returned answer).values ≡ cond fails 0 1 ∷ []
+    value : Accepted → (returned_flag answer).values ≡ cond fails 0 1 ∷ []
     unfolding premise_answer answered
     value e = ap (λ (r : Returned). r.values) is ∙ when_accepted _ _ _ e
 
     -- accepted, and not no
-    pub accepted_yes : Accepted → fails ≡ false → answer ≡ Yes
+    pub accepted_yes : Accepted → fails ≡ false → answer ≡ Ok true
     accepted_yes e f = (by_value answer _ (value e)).0 (ap (λ (t : Bool). cond t 0 1) f)
 
     -- accepted, and no
-    pub accepted_no : Accepted → fails ≡ true → answer ≡ No
+    pub accepted_no : Accepted → fails ≡ true → answer ≡ Ok false
     accepted_no e f = (by_value answer _ (value e)).1 (ap (λ (t : Bool). cond t 0 1) f)
 
     -- yes is an accepted call's
-    pub yes_accepted : answer ≡ Yes → Accepted
-    unfolding premise_answer answered returned
-    yes_accepted q = sym (ap (λ (r : Returned). r.number) is) ∙ ap (λ (a : Holds). (returned a).number) q
+    pub yes_accepted : answer ≡ Ok true → Accepted
+    unfolding premise_answer answered
+    yes_accepted q = sym (ap (λ (r : Returned). r.number) is) ∙ ap (λ (a : Result Bool Refusal). (returned_flag a).number) q
 
     -- and not no
-    yes_fits : answer ≡ Yes → fails ≡ false
-    unfolding returned
+    yes_fits : answer ≡ Ok true → fails ≡ false
     yes_fits q = go fails refl
       where
         one : ◌≡◌ {A = ℕ} 1 (cond fails 0 1)
         one =
-            let values = sym (ap (λ (a : Holds). (returned a).values) q) ∙ value (yes_accepted q) in
+            let values = sym (ap (λ (a : Result Bool Refusal). (returned_flag a).values) q) ∙ value (yes_accepted q) in
             ap (λ (vs : List ℕ). get_or vs 0 0) values
 
         go : (t : Bool) → fails ≡ t → fails ≡ false

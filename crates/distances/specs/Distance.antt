@@ -1,12 +1,12 @@
 -- Chip distances of a base (document 02, request 06): what `shift_distance` and `least_distance` promise.
-use Rattle.std.specs.Prelude.{ℕ, ◌+◌, ◌*◌, ◌%◌, ◌≤◌, ◌≡◌, cond, [], ◌∷◌, eqb}
+use Rattle.std.specs.Prelude.{ℕ, ◌+◌, ◌*◌, ◌%◌, ◌≤◌, ◌≡◌, cond, [], ◌∷◌, eqb, Result}
 use Rattle.refusal.specs.Table.{refusal_of}
 use Rattle.refusal.specs.Tests.{Within}
 use Rattle.refusal.specs.Returned.{Returned}
+use Rattle.refusal.specs.Kinds.{returned}
+use Rattle.refusal.specs.declared.kinds.Refusal.{Refusal}
 use Rattle.vector.specs.Vector.{least_to}
 use Rattle.ccsk.specs.Chips.{differing, base_row}
-use Rattle.distances.specs.declared.distance.Answer.{Answer}
-use Rattle.distances.specs.declared.distance.Answer.TheVariants.{Count, Refused}
 
 -- the distance of the shift s: the number of chips in which shift s differs from shift 0, s counted mod 64
 unfoldable pub shift_distance : (base s : ℕ) → ℕ
@@ -15,11 +15,6 @@ shift_distance base s = differing base 0 (s % 64)
 -- the least distance of the shifts 1, 2, .., 63
 unfoldable pub least_distance : (base : ℕ) → ℕ
 least_distance base = least_to 62 (λ i. shift_distance base (i + 1))
-
--- the number and the values for each case of the answer: what was counted, or a refusal's number and no value
-unfoldable pub returned : Answer → Returned
-returned (Count count) = record { number = 0; values = count ∷ [] }
-returned (Refused number) = record { number = number; values = [] }
 
 -- what a call with one value answers: the value where the number of its refusal is 0, else that number alone
 unfoldable pub answered : (number value : ℕ) → Returned
@@ -39,7 +34,7 @@ module _ (base : ℕ) where
   least_answer = answered base_refusal (least_distance base)
 
   -- the promise of `shift_distance`, for every input: the answer; and the distance is even
-  pub record DistanceAnswered (s : ℕ) (answer : Answer) : Type 0 where
+  pub record DistanceAnswered (s : ℕ) (answer : Result ℕ Refusal) : Type 0 where
     pub answer_is : returned answer ≡ distance_answer s
     pub half : ℕ
     pub even : shift_distance base s ≡ 2 * half
@@ -55,6 +50,6 @@ module _ (base : ℕ) where
     pub at_least_two : 2 ≤ least
 
   -- the promise of `least_distance`, for every input: the answer, and what holds of it where the base is accepted
-  pub record LeastAnswered (answer : Answer) : Type 0 where
+  pub record LeastAnswered (answer : Result ℕ Refusal) : Type 0 where
     pub answer_is : returned answer ≡ least_answer
     pub least : base_refusal ≡ 0 → Least (least_distance base)

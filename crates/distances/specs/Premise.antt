@@ -1,20 +1,14 @@
 -- Whether the premise of the noiseless statement holds (document 02, request 06): what `premise_holds` promises.
-use Rattle.std.specs.Prelude.{ℕ, ◌*◌, ◌≤◌, ◌<◌, ◌≡◌, Bool, cond, ◌||◌, List, [], ◌∷◌, ltb}
+use Rattle.std.specs.Prelude.{ℕ, ◌*◌, ◌≤◌, ◌<◌, ◌≡◌, Bool, true, false, cond, ◌||◌, Result, Ok, List, [], ◌∷◌, ltb}
 use Rattle.refusal.specs.Table.{Row, refusal_of}
 use Rattle.refusal.specs.Tests.{outside, Within}
 use Rattle.refusal.specs.Returned.{Returned}
+use Rattle.refusal.specs.Kinds.{returned_flag}
+use Rattle.refusal.specs.declared.kinds.Refusal.{Refusal}
 use Rattle.ccsk.specs.Chips.{base_row}
 use Rattle.demapper.specs.Demap.{gain_row}
 use Rattle.demapper.specs.Noiseless.{Premise}
-use Rattle.distances.specs.declared.premise.Holds.{Holds}
-use Rattle.distances.specs.declared.premise.Holds.TheVariants.{Yes, No, Refused}
 use Rattle.distances.specs.Distance.{least_distance, answered}
-
--- the number and the values for each case of the answer: 1 for yes, 0 for no, or a refusal's number and no value
-unfoldable pub returned : Holds → Returned
-returned Yes = record { number = 0; values = 1 ∷ [] }
-returned No = record { number = 0; values = 0 ∷ [] }
-returned (Refused number) = record { number = number; values = [] }
 
 -- the rows of document 01's table that `premise_holds` has the input for, in its order
 abbrev pub premise_table : (base top bottom : ℕ) → List Row
@@ -44,11 +38,11 @@ module _ (base amplitude top bottom : ℕ) where
   -- The promise, for every input. First the answer. Then, where the call is accepted: for an amplitude from 1 to 127 it
   -- is yes exactly where the premise of the noiseless statement holds, at whatever symbol is sent and for whatever Qc
   -- from 1 to 5; and exactly where amplitude × top × least distance ≥ bottom; for any other amplitude it is no
-  pub record PremiseAnswered (answer : Holds) : Type 0 where
-    pub answer_is : returned answer ≡ premise_answer
-    pub yes_premise : answer ≡ Yes → (qc s : ℕ) → Within 1 5 qc → s < 64 → Premise base amplitude top bottom qc s
+  pub record PremiseAnswered (answer : Result Bool Refusal) : Type 0 where
+    pub answer_is : returned_flag answer ≡ premise_answer
+    pub yes_premise : answer ≡ Ok true → (qc s : ℕ) → Within 1 5 qc → s < 64 → Premise base amplitude top bottom qc s
     pub premise_yes : Accepted → Within 1 127 amplitude → (qc s : ℕ) → Within 1 5 qc → s < 64
-        → Premise base amplitude top bottom qc s → answer ≡ Yes
-    pub yes_far : answer ≡ Yes → Within 1 127 amplitude × FarEnough
-    pub far_yes : Accepted → Within 1 127 amplitude → FarEnough → answer ≡ Yes
-    pub other_no : Accepted → (Within 1 127 amplitude → ⊥) → answer ≡ No
+        → Premise base amplitude top bottom qc s → answer ≡ Ok true
+    pub yes_far : answer ≡ Ok true → Within 1 127 amplitude × FarEnough
+    pub far_yes : Accepted → Within 1 127 amplitude → FarEnough → answer ≡ Ok true
+    pub other_no : Accepted → (Within 1 127 amplitude → ⊥) → answer ≡ Ok false

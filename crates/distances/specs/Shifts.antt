@@ -1,13 +1,14 @@
 -- The shifts within some number of chips (document 02, request 06): what `shifts_within` promises.
-use Rattle.std.specs.Prelude.{ℕ, ◌+◌, ◌-◌, ◌≤◌, ◌<◌, ◌≡◌, cond, List, [], ◌∷◌, ◌++◌, eqb, ltb, length, get_or, replicate}
+use Rattle.std.specs.Prelude.{ℕ, ◌+◌, ◌-◌, ◌≤◌, ◌<◌, ◌≡◌, cond, List, [], ◌∷◌, ◌++◌, eqb, ltb, length, get_or, replicate, Result}
 use Rattle.refusal.specs.Table.{Row, refusal_of}
 use Rattle.refusal.specs.Tests.{Within}
 use Rattle.refusal.specs.Rows.{length_row}
 use Rattle.refusal.specs.Returned.{Returned}
+use Rattle.refusal.specs.Kinds.{returned}
+use Rattle.refusal.specs.declared.kinds.Refusal.{Refusal}
 use Rattle.vector.specs.Vector.{joined}
 use Rattle.ccsk.specs.Chips.{base_row}
-use Rattle.distances.specs.declared.distance.Answer.{Answer}
-use Rattle.distances.specs.Distance.{shift_distance, returned, answered}
+use Rattle.distances.specs.Distance.{shift_distance, answered}
 
 module _ (base d : ℕ) where
   -- the shift s alone where its distance is at most d, else nothing
@@ -52,7 +53,7 @@ pub record NearList (base d count : ℕ) (bytes : List ℕ) : Type 0 where
   pub rest : (i : ℕ) → count ≤ i → i < 63 → get_or bytes i 0 ≡ 0
 
 -- the promise, for every input: the answer, the buffer at exit, and what holds of it where the call is accepted
-pub record ShiftsListed (base d : ℕ) (before after : List ℕ) (answer : Answer) : Type 0 where
+pub record ShiftsListed (base d : ℕ) (before after : List ℕ) (answer : Result ℕ Refusal) : Type 0 where
   pub answer_is : returned answer ≡ shifts_answer base before d
   pub buffer_is : after ≡ shifts_buffer base before d
   pub list : shifts_refusal base before ≡ 0 → NearList base d (length (near_shifts base d)) after

@@ -5,6 +5,6 @@ mod distance;
 mod premise;
 mod shifts;
 
-pub use distance::{Answer, least_distance, shift_distance};
-pub use premise::{Holds, premise_holds};
+pub use distance::{least_distance, shift_distance};
+pub use premise::premise_holds;
 pub use shifts::shifts_within;

@@ -1,5 +1,5 @@
 -- The numbers of refusals, and a table that a call goes down in parts.
-use Rattle.std.proofs.Common.{◌≡◌, ℕ, List, ◌++◌, ◌∙◌, sym, refl, cond, eqb, Result, IsErrAnd}
+use Rattle.std.proofs.Common.{◌≡◌, ℕ, List, ◌++◌, ◌∙◌, sym, ap, cond, eqb, Result, Err, IsErrAnd}
 use Rattle.std.proofs.lemmas.Result.{err_from_is_err_and}
 use native.Mathlib.Omega.{arith}
 use lib.Dec.{T}
@@ -28,9 +28,15 @@ number_nonzero Form e = omega arith
 number_nonzero Candidates e = omega arith
 number_nonzero Amplitude e = omega arith
 
--- the number at the exit of a `?`, from what the exit says of what it returns
-pub exit_number : {A : Type 0} (answer : Result A Refusal) (r : Refusal) → IsErrAnd answer (λ y. y ≡ r) → number answer ≡ number_of r
-exit_number answer r h = let p = err_from_is_err_and answer h in rw (p.1, p.2) refl
+-- the exit of a `?`, from what it says of what it returns
+module _ {A : Type 0} (answer : Result A Refusal) (r : Refusal) (h : IsErrAnd answer (λ y. y ≡ r)) where
+  -- it returns the refusal
+  pub exit_is : answer ≡ Err r
+  exit_is = let p = err_from_is_err_and answer h in p.1 ∙ ap Err p.2
+
+  -- and so its number
+  pub exit_number : number answer ≡ number_of r
+  exit_number = ap number exit_is
 
 module _ (rs ss : List Row) where
   -- the first part of a table refuses: so does the whole
