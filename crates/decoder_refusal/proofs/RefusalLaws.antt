@@ -16,7 +16,10 @@ use lib.ListN.{length, get_or, drop, drop_of_length-le}
 use lib.Seq.{drop-cons}
 use Rattle.refusal.specs.Tests.{outside, any_outside, any_to}
 use Rattle.refusal.specs.Table.{Row, refusal_of, NoneFits, OneOf, Numbered}
-use Rattle.refusal.proofs.Laws.{accepted_none, first_refused, first_accepted, both_accepted, accepted_both}
+use Rattle.refusal.specs.Kinds.{number_of}
+use Rattle.refusal.specs.declared.kinds.Refusal.{Refusal}
+use Rattle.refusal.proofs.KindLaws.{part_refused}
+use Rattle.refusal.proofs.Laws.{accepted_none, first_accepted, both_accepted, accepted_both}
 use Rattle.refusal.proofs.WalkLaws.{numbered, same_after}
 use Rattle.refusal.proofs.Among.{Among, refusal_among}
 use Rattle.refusal.proofs.AnyTo.{any_there, none_there, each_not}
@@ -26,8 +29,7 @@ use Rattle.vector.specs.Frame.{largest, IsFrame}
 use Rattle.vector.proofs.SliceLaws.{vector_long, vector_entry}
 use Rattle.vector.proofs.FrameLaws.{largest_is}
 use Rattle.polar_code.specs.Code.{Code, code_sizes, IsCode}
-use Rattle.polar_code.specs.Sizes.{places_of}
-use Rattle.polar_code.proofs.CodeLaws.{rows_code, sizes_of_code, code_bytes, after_sizes}
+use Rattle.polar_code.proofs.CodeLaws.{rows_code, sizes_of_code, code_bytes}
 use Rattle.decoder_refusal.specs.Refusals.{no_zero, greatest, llrs_row, zeros_row, buffer_rows, BuffersFit, size_table, code_rows, frame_rows, content_table, decode_table, decode_refusal, Decodable, Settings, Lent}
 
 -- ---- lists with no 0
@@ -96,13 +98,9 @@ module _ (xs : List ℕ) (m i : ℕ) (h : Kept xs m i) (l : i < length xs) where
   unfolding greatest
   greatest_from = rw (add-one, drop-cons xs i 0)
 
-  -- it is greater than the one kept
-  pub keep_new : m < get_or xs i 0 → Kept xs (get_or xs i 0) (i + 1)
-  keep_new s = let e = greatest_from in omega arith
-
-  -- it is not
-  pub keep_old : get_or xs i 0 ≤ m → Kept xs m (i + 1)
-  keep_old s = let e = greatest_from in omega arith
+  -- the greater of that one and the one kept is kept
+  pub keep_more : {m' : ℕ} → m' ≡ max m (get_or xs i 0) → Kept xs m' (i + 1)
+  keep_more e = let f = greatest_from in omega arith
 
 -- no number is left: the one kept is the greatest
 pub keep_all : (xs : List ℕ) (m i : ℕ) → Kept xs m i → length xs ≤ i → m ≡ greatest xs
@@ -194,12 +192,7 @@ frame_of_rows qc places frame few small zeros = record {
       record { zero_at = z.0; within = omega arith; is_zero = z.2 };
 }
 
--- ---- the rows as `size_refusal` and `content_refusal` try them
-
--- the lengths of the buffers with the places that `place_count` gives
-pub buffers_tried : (code : Code) (frame : List ℕ) (lent : Lent) {r : ℕ}
-    → r ≡ refusal_of (code_sizes code ++ buffer_rows (places_of code.n) frame lent) → r ≡ refusal_of (size_table code frame lent)
-buffers_tried code frame lent = after_sizes code (λ places. buffer_rows places frame lent)
+-- ---- the rows as `check_contents` tries them
 
 -- the penalties with the largest one that `largest` gives
 pub penalties_tried : (map cs : List ℕ) (settings : Settings) (frame : List ℕ) {r : ℕ}
@@ -256,9 +249,9 @@ module _ (code : Code) (settings : Settings) (frame : List ℕ) (lent : Lent) wh
   contents_numbered = numbered contents tt
 
   -- the sizes are refused
-  pub size_refused : (r : ℕ) → r ≡ refusal_of sizes → (r ≡ 0 → ⊥) → r ≡ decode_refusal code settings frame lent
+  pub size_refused : (r : Refusal) → number_of r ≡ refusal_of sizes → number_of r ≡ decode_refusal code settings frame lent
   unfolding decode_refusal
-  size_refused r e h = first_refused sizes contents e h
+  size_refused r e = part_refused sizes contents r e
 
   -- they are accepted: the frame has 2^n vectors, and the rest decides
   pub size_accepted : (r : ℕ) → refusal_of sizes ≡ 0

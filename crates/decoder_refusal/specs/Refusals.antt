@@ -5,6 +5,8 @@ use Rattle.refusal.specs.Tests.{outside, any_outside, any_to, Within}
 use Rattle.refusal.specs.Rows.{length_row, qc_row}
 use Rattle.vector.specs.Vector.{vector_at}
 use Rattle.vector.specs.Frame.{IsFrame}
+use Rattle.decoder_refusal.specs.declared.settings.Settings as declared
+use Rattle.decoder_refusal.specs.declared.lent.Lent as lent
 use Rattle.polar_code.specs.Code.{Code, code_sizes, code_table, IsCode}
 
 -- no number of the list is 0
@@ -41,12 +43,10 @@ zeros_row places frame = (9, any_to places (λ i. no_zero (vector_at frame i)))
 abbrev pub penalty_table : (most : ℕ) → List ℕ → List Row
 penalty_table most frame = above_row most frame ∷ zeros_row (length frame / 64) frame ∷ []
 
--- what a caller of `decode` sets beside the code: the precisions Qc and Qm, and how many values a check node tries (the
--- papers' m)
-pub record Settings : Type 0 where
-  pub qc : ℕ
-  pub qm : ℕ
-  pub candidates : ℕ
+-- what a caller of `decode` sets beside the code (src/settings.rt): the precisions Qc and Qm, and how many values a check
+-- node tries (the papers' m)
+abbrev pub Settings : Type 0
+Settings = declared.Settings
 
 -- those settings
 abbrev pub settings_of : (qc qm candidates : ℕ) → Settings
@@ -62,6 +62,10 @@ pub record Lent : Type 0 where
 -- those buffers
 abbrev pub lent_of : (work symbols report totals : List ℕ) → Lent
 lent_of work symbols report totals = record { work = work; symbols = symbols; report = report; totals = totals }
+
+-- what the buffers hold (src/lent.rt)
+abbrev pub lent_now : lent.Lent → Lent
+lent_now l = lent_of l.work.now l.symbols.now l.report.now l.totals.now
 
 -- the rows on the lengths of the frame and of the buffers, for this many places
 abbrev pub buffer_rows : (places : ℕ) (frame : List ℕ) → Lent → List Row

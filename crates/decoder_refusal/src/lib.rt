@@ -1,7 +1,13 @@
-// The refusals of the decoder: by which number of document 01's table `decode` refuses; with those of a frame's
-// penalties, which a reader of frames gives too.
+// What `decode` is given beside a code, and what it refuses that by: the settings, the penalties of a frame, which a
+// reader of frames refuses too, and the buffers lent to be written.
 #![tactic(auto)]
 
-mod refusals;
+mod call;
+mod frame;
+mod lent;
+mod settings;
 
-pub use refusals::{decode_refusal, frame_refusal, settings_refusal};
+pub use call::check;
+pub use frame::check_frame;
+pub use lent::Lent;
+pub use settings::Settings;
