@@ -34,9 +34,11 @@ use Rattle.decoder.specs.Parts.{largest_number, BlockVector, BlockGiven, vectors
 use Rattle.decoder.specs.declared.vectors.BlockAt.{BlockAt}
 use Rattle.polar_code.specs.Code.{Code}
 use Rattle.decoder_refusal.specs.Refusals.{Settings, Lent, decode_refusal, Decodable}
-use Rattle.decoder.specs.declared.decoder.Answer as enum
-use Rattle.decoder.specs.declared.decoder.Answer.TheVariants.{Count, Refused}
-use Rattle.decoder.specs.Decode.{returned, decode_answer, decode_symbols, decode_report, decode_totals, decode_work, Decoded}
+use Rattle.std.proofs.Common.{Result, Ok, Err}
+use Rattle.refusal.specs.Kinds.{number_of, returned}
+use Rattle.refusal.specs.declared.kinds.Refusal.{Refusal}
+use Rattle.refusal.proofs.KindLaws.{number_nonzero}
+use Rattle.decoder.specs.Decode.{decode_answer, decode_symbols, decode_report, decode_totals, decode_work, Decoded}
 use Rattle.decoder_refusal.proofs.RefusalLaws.{accepted}
 use Rattle.decoder.proofs.FrameLaws.{each_zero, each_qc, each_cap, each_31}
 use Rattle.decoder.proofs.HalvesLaws.{vectors_by}
@@ -170,7 +172,7 @@ module _ (code : Code) (settings : Settings) (frame : List ℕ) (lent : Lent) wh
       (least_totals code full frame refl t.is_code.nonzero (each_zero t) (unclipped_13 t all_candidates (lit≤ tt)) 0 (pow_pos n)).of_row
 
   -- the promise from its equations: what else it says holds of the definitions
-  promise : {after : Lent} {r : enum.Answer} → returned r ≡ decode_answer code settings frame lent
+  promise : {after : Lent} {r : Result ℕ Refusal} → returned r ≡ decode_answer code settings frame lent
       → after.symbols ≡ decode_symbols code settings frame lent → after.report ≡ decode_report code settings frame lent
       → after.totals ≡ decode_totals code settings frame lent → after.work ≡ decode_work code settings frame lent
       → Decoded code settings frame lent after r
@@ -212,12 +214,11 @@ module _ (code : Code) (settings : Settings) (frame : List ℕ) (lent : Lent) wh
       }
 
   -- a refusal: its number, and every buffer as it came
-  pub promise_refused : {number : ℕ} → number ≡ decode_refusal code settings frame lent → (number ≡ 0 → ⊥)
-      → Decoded code settings frame lent lent (Refused number)
-  unfolding returned decode_answer decode_symbols decode_report decode_totals decode_work
-  promise_refused {number} e ne =
+  pub promise_refused : (r : Refusal) → number_of r ≡ decode_refusal code settings frame lent → Decoded code settings frame lent lent (Err r)
+  unfolding decode_answer decode_symbols decode_report decode_totals decode_work
+  promise_refused r e =
       let k = decode_refusal code settings frame lent in
-      let h : (k ≡ 0 → ⊥) = λ z. ne (e ∙ z) in
+      let h : (k ≡ 0 → ⊥) = λ z. number_nonzero r (e ∙ z) in
       promise
       (λ i. record { number = e i; values = sym (when_refused k (scms.count code mode frame ∷ []) [] h) i })
       (sym (when_refused k (scms.symbols code mode frame) lent.symbols h))
@@ -228,8 +229,8 @@ module _ (code : Code) (settings : Settings) (frame : List ℕ) (lent : Lent) wh
   -- a frame that is decoded: its count, and what is in the buffers
   pub promise_accepted : {count : ℕ} {after : Lent} → decode_refusal code settings frame lent ≡ 0
       → count ≡ scms.count code mode frame → after.symbols ≡ scms.symbols code mode frame → after.report ≡ scms.report code mode frame
-      → after.totals ≡ scms.totals code mode frame → after.work ≡ replicate (65 * 2 ^ n) 0 → Decoded code settings frame lent after (Count count)
-  unfolding returned decode_answer decode_symbols decode_report decode_totals decode_work
+      → after.totals ≡ scms.totals code mode frame → after.work ≡ replicate (65 * 2 ^ n) 0 → Decoded code settings frame lent after (Ok count)
+  unfolding decode_answer decode_symbols decode_report decode_totals decode_work
   promise_accepted {count} {after} e ec es er et ew =
       let k = decode_refusal code settings frame lent in
       promise

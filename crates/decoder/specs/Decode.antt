@@ -1,5 +1,6 @@
 -- What `decode` promises.
-use Rattle.std.specs.Prelude.{ℕ, ◌*◌, ◌-◌, ◌/◌, ◌^◌, ◌≤◌, ◌<◌, ◌≡◌, cond, List, [], ◌∷◌, eqb, get_or, take, replicate}
+use Rattle.std.specs.Prelude.{ℕ, ◌*◌, ◌-◌, ◌/◌, ◌^◌, ◌≤◌, ◌<◌, ◌≡◌, cond, List, [], ◌∷◌, eqb, get_or, take, replicate, Result}
+use Rattle.std.specs.Borrow.{MutBor}
 use Rattle.refusal.specs.Returned.{Returned}
 use Rattle.vector.specs.Vector.{vector_at}
 use Rattle.polar_code.specs.Code.{Code}
@@ -7,15 +8,14 @@ use Rattle.scms.specs.Mode.{Mode, mode_of, Full}
 use Rattle.scms.specs.Decoder as scms
 use Rattle.scms.specs.Totals.{LeastTotal, FrozenFirst, Unclipped}
 use Rattle.scms.specs.Claims.{CountZero, LeastTotals, Decided, BestWord}
-use Rattle.decoder.specs.declared.decoder.Answer.{Answer}
-use Rattle.decoder.specs.declared.decoder.Answer.TheVariants.{Count, Refused}
-use Rattle.decoder_refusal.specs.Refusals.{Settings, Lent, decode_refusal}
+use Rattle.refusal.specs.Kinds.{returned}
+use Rattle.refusal.specs.declared.kinds.Refusal.{Refusal}
+use Rattle.decoder_refusal.specs.Refusals.{Settings, Lent, lent_of, decode_refusal}
 
--- the number and the values for each case of the answer: a decoded frame has the count of clipped entries, a refusal
--- its number (for `decode` one of the table 'Refused', or 13) and no value
-unfoldable pub returned : Answer → Returned
-returned (Count count) = record { number = 0; values = count ∷ [] }
-returned (Refused number) = record { number = number; values = [] }
+-- what the buffers lent to `decode` hold when it returns: the work buffer, the symbols, the report and the totals, in
+-- this order
+abbrev pub lent_after : MutBor (List ℕ) × (MutBor (List ℕ) × (MutBor (List ℕ) × (MutBor (List ℕ) × Unit {0}))) → Lent
+lent_after l = lent_of l.0.now l.1.0.now l.1.1.0.now l.1.1.1.0.now
 
 module _ (code : Code) (settings : Settings) (frame : List ℕ) (lent : Lent) where
   -- the number of the refusal, 0 where the call is accepted
@@ -62,7 +62,7 @@ module _ (code : Code) (settings : Settings) (frame : List ℕ) (lent : Lent) wh
   -- and each decision; in an unclipped frame a place's number in the totals is the least total of the row decided
   -- before it, and with what is held for a value that of the row followed by the value; and in an unclipped frame,
   -- where all frozen places come first, no word of the code has a smaller total than the word decided
-  pub record Decoded (after : Lent) (r : Answer) : Type 0 where
+  pub record Decoded (after : Lent) (r : Result ℕ Refusal) : Type 0 where
     pub answer : returned r ≡ decode_answer
     pub symbols_are : after.symbols ≡ decode_symbols
     pub report_is : after.report ≡ decode_report

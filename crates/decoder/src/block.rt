@@ -67,10 +67,7 @@ pub(crate) fn decode_block(
         layers,
         start: first_start,
         at: next,
-        places: block.places,
-        cap: block.cap,
-        candidates: block.candidates,
-        taken: block.taken,
+        ..block
     };
     check_nodes(block, half, coefs, table, frame, work, &mut report[cut..]);
     let left = decode_block(
@@ -87,13 +84,9 @@ pub(crate) fn decode_block(
     );
     let nodes = variable_nodes(block, half, word, frame, work, &report[cut..]);
     let second = BlockAt {
-        layers,
         start: first_start + half / 2,
-        at: next,
-        places: first.places,
-        cap: first.cap,
-        candidates: first.candidates,
         taken: block.taken + nodes.taken,
+        ..first
     };
     let right = decode_block(
         second,

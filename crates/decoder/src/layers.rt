@@ -30,15 +30,13 @@ pub(crate) fn check_nodes(
     let start = block.start;
     let candidates = block.candidates;
     let to = at + (half + half) - places;
-    let mut t: usize = 0;
-    while t < half {
+    for t in 0..half {
         let theta = load_vector(places, frame, work, at + t);
         let phi = load_vector(places, frame, work, at + (half + t));
         let ordered = phi_order::ordered(&phi, table, coefs[start + t]);
         vector::store(&ordered, t, room);
         let r = short_check_node::short_check_node(&theta, &ordered, candidates);
         vector::store(&r, to + t, work);
-        t += 1;
     }
 }
 
@@ -72,16 +70,13 @@ pub(crate) fn variable_nodes(
     let to = at + (half + half) - places;
     let mut count: u32 = 0;
     let mut taken: u16 = 0;
-    let mut t: usize = 0;
-    while t < half {
+    for t in 0..half {
         let theta = load_vector(places, frame, work, at + t);
         let ordered = vector_of(room, t);
         let r = variable_node::variable_node(&theta, &ordered, word[t], cap);
-        let llrs = r.llrs;
-        vector::store(&llrs, to + t, work);
+        vector::store(&r.llrs, to + t, work);
         count += r.count;
         taken += r.taken;
-        t += 1;
     }
     NodeSums { count, taken }
 }

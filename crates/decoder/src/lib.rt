@@ -7,4 +7,4 @@ mod decoder;
 mod layers;
 mod vectors;
 
-pub use decoder::{Answer, decode};
+pub use decoder::decode;

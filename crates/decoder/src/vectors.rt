@@ -29,12 +29,7 @@ pub(crate) fn vector_of(s: &[u16], i: usize) -> [u16; 64]
     ensures { result ≡ vector_at s.now i }
 {
     let mut v = [0u16; 64];
-    let at = 64 * i;
-    let mut c: usize = 0;
-    while c < 64 {
-        v[c] = s[at + c];
-        c += 1;
-    }
+    v.copy_from_slice(&s[64 * i..64 * i + 64]);
     v
 }
 
