@@ -4,7 +4,7 @@ use native.Mathlib.Omega.{arith}
 use Rattle.refusal.specs.Tests.{Within}
 use Rattle.scms.specs.Mode.{all_candidates}
 use Rattle.decoder_refusal.specs.Refusals.{settings_of}
-use Rattle.distances.specs.declared.premise.Holds.{Holds}
+use Rattle.refusal.specs.declared.kinds.Refusal.{Refusal}
 use Rattle.distances.specs.Premise.{Accepted}
 use Rattle.distances.proofs.PremiseLaws.{gain, far_apart, apart_far, yes_accepted}
 use Rattle.link.specs.Noiseless.{Transmission, Reception, Sendable, message_frame, PremiseConditions}
@@ -31,7 +31,7 @@ module _ (s : Transmission) (r : Reception) (sendable : Sendable s) (precision :
       })
 
 -- the answer is yes exactly where the premise holds
-pub premise_statement : (s : Transmission) (r : Reception) (answer : Holds) → PremiseStatement s r answer
+pub premise_statement : (s : Transmission) (r : Reception) (answer : Result Bool Refusal) → PremiseStatement s r answer
 unfolding message_frame
 premise_statement s r answer promised sendable precision = record {
   yes_holds = λ q.

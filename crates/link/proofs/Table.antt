@@ -21,8 +21,7 @@ use Rattle.ccsk.specs.Spread.{numbers_of, spread_refusal}
 use Rattle.demapper.specs.Samples.{hard_chip, is_lost, magnitude, added, raw, raw_llrs, quantised, quantised_llrs, llrs}
 use Rattle.demapper.specs.Demap.{frame_of, demap_refusal}
 use Rattle.demapper.specs.Noiseless.{sent_sample, sent_symbol, number_samples}
-use Rattle.distances.specs.declared.premise.Holds.{Holds}
-use Rattle.distances.specs.declared.premise.Holds.TheVariants.{Yes, No}
+use Rattle.refusal.specs.declared.kinds.Refusal.{Refusal}
 use Rattle.distances.specs.Distance.{shift_distance, least_distance, answered, base_refusal, distance_answer, least_answer}
 use Rattle.distances.specs.Shifts.{near_shift, near_to, with_zeros, shifts_refusal, shifts_answer, shifts_buffer}
 use Rattle.distances.specs.Premise.{premise_refusal, premise_fails, premise_answer, PremiseAnswered}
@@ -57,12 +56,12 @@ holds : (code : Code) (message : List ℕ) (qm : ℕ) → ChainInput (sent_by co
 holds code message qm h = (corollary (sent_by code message) (received_by 20 qm) h).any_base (lit< tt) (omega arith)
 
 -- so `premise_holds` answers no for the one
-answers_no : (answer : Holds) → PremiseAnswered 1 10 1 40 answer → answer ≡ No
+answers_no : (answer : Result Bool Refusal) → PremiseAnswered 1 10 1 40 answer → answer ≡ Ok false
 unfolding refusal_of outside least_to sum_to chip symbol_chip turned differing shift_distance least_distance premise_refusal premise_fails
 answers_no answer p = accepted_no 1 10 1 40 answer p.answer_is refl refl
 
 -- and yes for the other
-answers_yes : (answer : Holds) → PremiseAnswered 1 10 1 20 answer → answer ≡ Yes
+answers_yes : (answer : Result Bool Refusal) → PremiseAnswered 1 10 1 20 answer → answer ≡ Ok true
 unfolding refusal_of outside least_to sum_to chip symbol_chip turned differing shift_distance least_distance premise_refusal premise_fails
 answers_yes answer p = accepted_yes 1 10 1 20 answer p.answer_is refl refl
 

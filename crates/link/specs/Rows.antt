@@ -14,8 +14,7 @@ use Rattle.ccsk.specs.Spread.{spread_refusal}
 use Rattle.demapper.specs.Samples.{lost}
 use Rattle.demapper.specs.Demap.{frame_of, demap_refusal}
 use Rattle.demapper.specs.Noiseless.{sent_symbol}
-use Rattle.distances.specs.declared.premise.Holds.{Holds}
-use Rattle.distances.specs.declared.premise.Holds.TheVariants.{Yes, No}
+use Rattle.refusal.specs.declared.kinds.Refusal.{Refusal}
 use Rattle.distances.specs.Distance.{shift_distance, distance_answer, least_answer}
 use Rattle.distances.specs.Shifts.{shifts_answer, shifts_buffer}
 use Rattle.distances.specs.Premise.{premise_answer, PremiseAnswered}
@@ -276,8 +275,8 @@ pub record Worked : Type 0 where
       → NoiselessPremise (sent_by code message) (received_by 40 qm) → ⊥
   pub premise_holds : (code : Code) (message : List ℕ) (qm : ℕ) → ChainInput (sent_by code message) (received_by 20 qm)
       → NoiselessPremise (sent_by code message) (received_by 20 qm)
-  pub answers_no : (answer : Holds) → PremiseAnswered 1 10 1 40 answer → answer ≡ No
-  pub answers_yes : (answer : Holds) → PremiseAnswered 1 10 1 20 answer → answer ≡ Yes
+  pub answers_no : (answer : Result Bool Refusal) → PremiseAnswered 1 10 1 40 answer → answer ≡ Ok false
+  pub answers_yes : (answer : Result Bool Refusal) → PremiseAnswered 1 10 1 20 answer → answer ≡ Ok true
   pub nine_gives_1 : (rest frozen cs : List ℕ) → sheet_refusal (first_line 32 57 ++ rest) frozen cs ≡ 1
   pub zero_eight_gives_12 : (rest frozen cs : List ℕ) → sheet_refusal (first_line 48 56 ++ rest) frozen cs ≡ 12
   pub totals_of_four : totals four_code (mode_of 13 all_candidates) four_frame ≡ 0 ∷ 1 ∷ 3 ∷ 6 ∷ []

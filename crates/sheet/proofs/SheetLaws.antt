@@ -27,15 +27,12 @@ use Rattle.vector.specs.Vector.{tabulate}
 use Rattle.vector.proofs.Laws.{length_tabulate, get_d_tabulate}
 use Rattle.columns.specs.Reading.{spelled, part, is_line}
 use Rattle.columns.proofs.LineLaws.{lent_part}
-use Rattle.sheet.specs.CodeSheet.{bad_line, number_on, numbers_on, sheet_layers, sheet_places, sheet_kernels, sheet_lines, sheet_map, sheet_coefs, form_table, content_table, sheet_table, sheet_refusal, returned, sheet_answer, map_read, coefs_read, SheetRead}
-use Rattle.sheet.specs.declared.code_sheet.Answer.{Answer}
-use Rattle.sheet.specs.declared.code_sheet.Answer.TheVariants.{Layers, Refused}
-use Rattle.sheet.specs.Parts.{Lines, Formed, NumbersGiven}
-
--- the number on a line as it is lent: five bytes, of which four columns are read
-pub lent_number : (i : ℕ) (bytes : List ℕ) → spelled (take 4 (take (5 * i + 5 - 5 * i) (drop (5 * i) bytes))) ≡ number_on i bytes
-unfolding number_on
-lent_number i bytes = ap (λ (xs : List ℕ). spelled (take 4 xs)) (lent_part 5 i bytes)
+use Rattle.sheet.specs.CodeSheet.{bad_line, number_on, numbers_on, sheet_layers, sheet_places, sheet_kernels, sheet_lines, sheet_map, sheet_coefs, form_table, content_table, sheet_table, sheet_refusal, sheet_answer, map_read, coefs_read, SheetRead}
+use Rattle.std.proofs.Common.{Result, Ok, Err}
+use Rattle.refusal.specs.Kinds.{number_of, returned}
+use Rattle.refusal.specs.declared.kinds.Refusal.{Refusal}
+use Rattle.refusal.proofs.KindLaws.{number_nonzero}
+use Rattle.sheet.specs.Parts.{Lines, Formed, NumbersGiven, tried_form, tried_content}
 
 -- numbers that are tabulated, one of them outside
 module _ (low high : ℕ) where
@@ -95,17 +92,14 @@ module _ (bytes : List ℕ) where
   abbrev lines_table : (lines count : ℕ) → List Row
   lines_table lines count = (12, unequal (length bytes) (5 * lines)) ∷ (12, any_to count (λ i. bad_line i bytes)) ∷ []
 
-  -- how many lines there must be, by the sizes that `place_count` and `kernel_count` give
-  abbrev tried_lines : ℕ
-  tried_lines = 1 + places_of (sheet_layers bytes) + kernels_of (sheet_layers bytes)
-
-  -- five bytes or more: the other rows, tried with these sizes and with all lines that the bytes have
-  pub form_tried : 5 ≤ length bytes → {r : ℕ}
-      → r ≡ refusal_of ((12, bad_line 0 bytes) ∷ layers_row (sheet_layers bytes) ∷ lines_table tried_lines (length bytes / 5))
-      → r ≡ refusal_of (form_table bytes)
-  form_tried l e =
+  -- five bytes or more: the other rows, tried with the sizes that `place_count` and `kernel_count` give and with all lines
+  -- that the bytes have
+  pub form_tried : {n : ℕ} → n ≡ sheet_layers bytes → 5 ≤ length bytes → {r : ℕ} → r ≡ refusal_of (tried_form n bytes) → r ≡ refusal_of (form_table bytes)
+  form_tried is_n l e =
       let lines = sheet_lines bytes in
-      e ∙ same_after ((12, bad_line 0 bytes) ∷ layers_row (sheet_layers bytes) ∷ []) (lines_table tried_lines (length bytes / 5)) (lines_table lines lines) (λ none.
+      let by_lines = lines_table (1 + places_of (sheet_layers bytes) + kernels_of (sheet_layers bytes)) (length bytes / 5) in
+      e ∙ ap (λ (k : ℕ). refusal_of (tried_form k bytes)) is_n
+      ∙ same_after ((12, bad_line 0 bytes) ∷ layers_row (sheet_layers bytes) ∷ []) by_lines (lines_table lines lines) (λ none.
       let few = (inside_within 1 8 (sheet_layers bytes) none.1.0).most in
       ap₂ (λ (places kernels : ℕ). refusal_of (lines_table (1 + places + kernels) (length bytes / 5))) (places_are _ few) (kernels_are _ few)
       ∙ same_after ((12, unequal (length bytes) (5 * lines)) ∷ []) _ ((12, any_to lines (λ i. bad_line i bytes)) ∷ []) (λ same.
@@ -157,39 +151,19 @@ module _ (bytes : List ℕ) where
 
 -- ---- the refusal, and what is read
 module _ (bytes map coefs : List ℕ) where
-  -- the rows on the buffers and the numbers for these sizes, with the test that is made for row 5
-  abbrev tried_content : (places kernels : ℕ) → List Row
-  tried_content places kernels =
-      (2, ltb (length map) places)
-      ∷ (2, ltb (length coefs) kernels)
-      ∷ map_row (numbers_on 1 places bytes)
-      ∷ (5, not (any_outside 1 1 (numbers_on 1 places bytes)))
-      ∷ coefs_row (numbers_on (1 + places) kernels bytes)
-      ∷ []
-
   -- they give the refusal, where n and the lines are right
-  pub content_tried : (n : ℕ) → Formed n bytes → {r : ℕ} → r ≡ refusal_of (tried_content (places_of n) (kernels_of n)) → r ≡ refusal_of (content_table bytes map coefs)
+  pub content_tried : (n : ℕ) → Formed n bytes → {r : ℕ} → r ≡ refusal_of (tried_content (places_of n) (kernels_of n) bytes map coefs) → r ≡ refusal_of (content_table bytes map coefs)
   unfolding sheet_map sheet_coefs
   content_tried n f e =
       let few = f.layers.most in
-      let same = ap (λ (k : ℕ). refusal_of (tried_content (2 ^ k) (k * (2 ^ k / 2)))) f.is_n in
-      e ∙ ap₂ (λ (places kernels : ℕ). refusal_of (tried_content places kernels)) (places_are n few) (kernels_are n few) ∙ same
+      let same = ap (λ (k : ℕ). refusal_of (tried_content (2 ^ k) (k * (2 ^ k / 2)) bytes map coefs)) f.is_n in
+      e ∙ ap₂ (λ (places kernels : ℕ). refusal_of (tried_content places kernels bytes map coefs)) (places_are n few) (kernels_are n few) ∙ same
       ∙ same_after ((2, ltb (length map) (sheet_places bytes)) ∷ (2, ltb (length coefs) (sheet_kernels bytes)) ∷ map_row (sheet_map bytes) ∷ [])
       _ (empty_row (sheet_map bytes) ∷ coefs_row (sheet_coefs bytes) ∷ []) (λ none.
       ap (λ (t : Bool). refusal_of ((5, t) ∷ coefs_row (sheet_coefs bytes) ∷ [])) (sym (all_frozen (sheet_map bytes) none.1.1.0)))
 
   content_numbered : Numbered (content_table bytes map coefs)
   content_numbered = (lit< tt, (lit< tt, (lit< tt, (lit< tt, (lit< tt, tt)))))
-
-  -- a sheet that is refused by its form
-  pub form_refused : {r : ℕ} → r ≡ refusal_of (form_table bytes) → (r ≡ 0 → ⊥) → r ≡ sheet_refusal bytes map coefs
-  unfolding sheet_refusal
-  form_refused e h = first_refused (form_table bytes) (content_table bytes map coefs) e h
-
-  -- one that is not: the rest decides
-  pub form_accepted : {r s : ℕ} → r ≡ refusal_of (form_table bytes) → r ≡ 0 → s ≡ refusal_of (content_table bytes map coefs) → s ≡ sheet_refusal bytes map coefs
-  unfolding sheet_refusal
-  form_accepted e z f = first_accepted (form_table bytes) (content_table bytes map coefs) (form_numbered bytes) (sym e ∙ z) f
 
   -- a sheet that no row refuses is accepted
   pub sheet_accepts : NoneFits (form_table bytes) → NoneFits (content_table bytes map coefs) → sheet_refusal bytes map coefs ≡ 0
@@ -259,11 +233,11 @@ module _ (bytes map coefs : List ℕ) where
     }
 
   -- a sheet that is refused: the buffers as they came
-  pub sheet_refused : {r : ℕ} → r ≡ sheet_refusal bytes map coefs → (r ≡ 0 → ⊥) → SheetRead bytes map coefs map coefs (Refused r)
-  unfolding sheet_answer map_read coefs_read returned
-  sheet_refused {r} e h =
+  pub sheet_refused : (r : Refusal) → number_of r ≡ sheet_refusal bytes map coefs → SheetRead bytes map coefs map coefs (Err r)
+  unfolding sheet_answer map_read coefs_read
+  sheet_refused r e =
       let refusal = sheet_refusal bytes map coefs in
-      let not-accepted : refusal ≡ 0 → ⊥ = λ q. h (e ∙ q) in
+      let not-accepted : refusal ≡ 0 → ⊥ = λ q. number_nonzero r (e ∙ q) in
       record {
         answer = ap₂ (λ (k : ℕ) (vs : List ℕ). record { number = k; values = vs }) e (sym (when_refused refusal (sheet_layers bytes ∷ []) [] not-accepted));
         map_is = sym (when_refused refusal (sheet_map bytes ++ drop (sheet_places bytes) map) map not-accepted);
@@ -276,8 +250,8 @@ module _ (bytes map coefs : List ℕ) where
   -- a sheet that is accepted
   pub sheet_accepted : {n : ℕ} {new_map new_coefs : List ℕ} → sheet_refusal bytes map coefs ≡ 0 → n ≡ sheet_layers bytes
       → new_map ≡ sheet_map bytes ++ drop (sheet_places bytes) map → new_coefs ≡ sheet_coefs bytes ++ drop (sheet_kernels bytes) coefs
-      → SheetRead bytes map coefs new_map new_coefs (Layers n)
-  unfolding sheet_answer map_read coefs_read returned
+      → SheetRead bytes map coefs new_map new_coefs (Ok n)
+  unfolding sheet_answer map_read coefs_read
   sheet_accepted e is_n m c =
       let refusal = sheet_refusal bytes map coefs in
       record {
@@ -296,11 +270,12 @@ left = 1 ∷ 4 ∷ 5 ∷ 6 ∷ 12 ∷ []
 
 -- the refusal is 0 or one of these
 pub sheet_numbered : (bytes map coefs : List ℕ) → 256 ≤ length map → 1024 ≤ length coefs → OneOf (sheet_refusal bytes map coefs) (0 ∷ left)
+unfolding sheet_refusal
 sheet_numbered bytes map coefs room space = go (ℕ_discrete (refusal_of (form_table bytes)) 0)
   where
     go : Dec (refusal_of (form_table bytes) ≡ 0) → OneOf (sheet_refusal bytes map coefs) (0 ∷ left)
     go (no h) =
-        subst (λ (k : ℕ). OneOf k (0 ∷ left)) (form_refused bytes map coefs refl h)
+        subst (λ (k : ℕ). OneOf k (0 ∷ left)) (first_refused (form_table bytes) (content_table bytes map coefs) refl h)
         (refusal_among left (form_table bytes) (inr tt, (inr tt, (inr tt, (inr tt, (inr tt, tt))))))
     go (yes z) =
         let few = (formed bytes z).layers.most in
@@ -308,19 +283,19 @@ sheet_numbered bytes map coefs room space = go (ℕ_discrete (refusal_of (form_t
         let count = mul-le-mul_right (sheet_places bytes / 2) few in
         let map_fits = le-ltb (length map) (sheet_places bytes) (omega arith) in
         let coefs_fit = le-ltb (length coefs) (sheet_kernels bytes) (omega arith) in
-        subst (λ (k : ℕ). OneOf k (0 ∷ left)) (form_accepted bytes map coefs refl z refl)
+        subst (λ (k : ℕ). OneOf k (0 ∷ left)) (first_accepted (form_table bytes) (content_table bytes map coefs) (form_numbered bytes) z refl)
         (refusal_among left (content_table bytes map coefs) (inl map_fits, (inl coefs_fit, (inr tt, (inr tt, (inr tt, tt))))))
 
 -- ---- what a sheet that was read leaves: a code at the start of the two buffers
-module _ {bytes map coefs m c : List ℕ} {n : ℕ} (read : SheetRead bytes map coefs m c (Layers n)) where
+module _ {bytes map coefs m c : List ℕ} {n : ℕ} (read : SheetRead bytes map coefs m c (Ok n)) where
   -- the sheet was accepted
   pub accepted : sheet_refusal bytes map coefs ≡ 0
-  unfolding returned sheet_answer
+  unfolding sheet_answer
   accepted = sym (ap (λ (x : Returned). x.number) read.answer)
 
   -- n is what stands on its first line
   pub layers_are : n ≡ sheet_layers bytes
-  unfolding returned sheet_answer
+  unfolding sheet_answer
   layers_are =
       ap (λ (x : Returned). get_or x.values 0 0) read.answer
       ∙ ap (λ (xs : List ℕ). get_or xs 0 0) (when_accepted (sheet_refusal bytes map coefs) (sheet_layers bytes ∷ []) [] accepted)
@@ -367,7 +342,7 @@ module _ {bytes map coefs m c : List ℕ} {n : ℕ} (read : SheetRead bytes map 
       omega arith
 
 -- the number that a sheet is refused by, from the answer
-pub number_read : {bytes map coefs m c : List ℕ} {r : Answer} → SheetRead bytes map coefs m c r → (returned r).number ≡ sheet_refusal bytes map coefs
+pub number_read : {bytes map coefs m c : List ℕ} {r : Result ℕ Refusal} → SheetRead bytes map coefs m c r → (returned r).number ≡ sheet_refusal bytes map coefs
 unfolding sheet_answer
 number_read read = ap (λ (x : Returned). x.number) read.answer
 

@@ -1,14 +1,14 @@
 -- The code sheet: lines of one number in four columns each, first n, then the N map bytes, then the n × N/2
 -- coefficients. What it holds, by which number it is refused, and what `read_sheet` promises.
-use Rattle.std.specs.Prelude.{ℕ, ◌+◌, ◌*◌, ◌/◌, ◌^◌, ◌≤◌, ◌≡◌, Bool, not, cond, List, [], ◌∷◌, ◌++◌, eqb, ltb, length, take, drop}
+use Rattle.std.specs.Prelude.{ℕ, ◌+◌, ◌*◌, ◌/◌, ◌^◌, ◌≤◌, ◌≡◌, Bool, not, cond, List, [], ◌∷◌, ◌++◌, eqb, ltb, length, take, drop, Result}
 use Rattle.refusal.specs.Table.{Row, refusal_of}
 use Rattle.refusal.specs.Tests.{any_to, unequal}
 use Rattle.refusal.specs.Returned.{Returned}
 use Rattle.vector.specs.Vector.{tabulate}
 use Rattle.columns.specs.Reading.{spelled, part, is_line}
 use Rattle.polar_code.specs.Code.{layers_row, map_row, empty_row, coefs_row, code_of, IsCode}
-use Rattle.sheet.specs.declared.code_sheet.Answer.{Answer}
-use Rattle.sheet.specs.declared.code_sheet.Answer.TheVariants.{Layers, Refused}
+use Rattle.refusal.specs.Kinds.{returned}
+use Rattle.refusal.specs.declared.kinds.Refusal.{Refusal}
 
 -- line i, counted from 0, is not four columns with one number and a line feed
 unfoldable pub bad_line : ℕ → List ℕ → Bool
@@ -21,12 +21,6 @@ number_on i bytes = spelled (take 4 (part 5 i bytes))
 -- the numbers on the k lines from line i on
 unfoldable pub numbers_on : (i k : ℕ) → List ℕ → List ℕ
 numbers_on i k bytes = tabulate k (λ j. number_on (i + j) bytes)
-
--- the number and the values for each case of the answer: a sheet that is accepted has n, a refusal its number and no
--- value
-unfoldable pub returned : Answer → Returned
-returned (Layers n) = record { number = 0; values = n ∷ [] }
-returned (Refused number) = record { number = number; values = [] }
 
 module _ (bytes : List ℕ) where
   -- n, on the first line
@@ -100,7 +94,7 @@ module _ (bytes map coefs : List ℕ) where
 
   -- What `read_sheet` promises, for every input: the answer r and the two buffers at exit; and that a sheet that is
   -- accepted is a code, with room for it in the buffers
-  pub record SheetRead (new_map new_coefs : List ℕ) (r : Answer) : Type 0 where
+  pub record SheetRead (new_map new_coefs : List ℕ) (r : Result ℕ Refusal) : Type 0 where
     pub answer : returned r ≡ sheet_answer
     pub map_is : new_map ≡ map_read
     pub coefs_are : new_coefs ≡ coefs_read

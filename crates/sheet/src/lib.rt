@@ -2,11 +2,11 @@
 // frame.
 #![tactic(auto)]
 
+mod check;
 mod code_sheet;
 mod frame_line;
 mod line;
 mod number;
-mod sheet_refusal;
 
-pub use code_sheet::{Answer, read_sheet};
+pub use code_sheet::read_sheet;
 pub use frame_line::read_frame_line;

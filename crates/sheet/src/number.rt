@@ -1,5 +1,5 @@
 // A number in four columns.
-ghost use Rattle.std.specs.Prelude.{◌≡◌, ◌-◌, ◌≤◌, eqb, length, take};
+ghost use Rattle.std.specs.Prelude.{◌≡◌, ◌-◌, ◌≤◌, length, take};
 ghost use Rattle.columns.specs.Reading.{spelled, same, is_field};
 
 // What a column counts: the digit of a byte from 48 on, 0 for a byte before that.
@@ -7,10 +7,11 @@ fn digit_of(byte: u8) -> u32
     ensures value { result ≡ byte - 48 }
     ensures upper_bound { result ≤ 207 }
 {
-    if byte < 48 { 0 } else { byte as u32 - 48 }
+    u32::from(byte.saturating_sub(b'0'))
 }
 
 // The number that the first four columns spell.
+#[tactic(auto, using(crate::proofs::NumberLaws::four_columns))]
 pub(crate) fn spelled_number(text: &[u8]) -> u32
     requires { 4 ≤ length text.now }
     ensures { result ≡ spelled (take 4 text.now) }
@@ -22,26 +23,11 @@ pub(crate) fn spelled_number(text: &[u8]) -> u32
     ((first * 10 + second) * 10 + third) * 10 + fourth
 }
 
-// Whether a byte is the one that is written in its column.
-fn is_written(byte: u8, written: u8) -> bool
-    ensures { result ≡ eqb byte written }
-{
-    byte == written
-}
-
-// Whether two slices of the same length hold the same bytes.
+// Whether two slices hold the same bytes.
 fn is_same(text: &[u8], form: &[u8]) -> bool
-    requires { length text.now ≡ length form.now }
     ensures { result ≡ same text.now form.now }
 {
-    let mut i: usize = 0;
-    while i < text.len() {
-        if !is_written(text[i], form[i]) {
-            return false;
-        }
-        i += 1;
-    }
-    true
+    text == form
 }
 
 // Whether four bytes are a number in four columns: what is written for the number that they spell.
