@@ -13,6 +13,9 @@ use lib.ListN.{length, take, drop, length-append, length-take, length-drop, drop
 use lib.Seq.{take_all, take_at, drop-append-add, drop-drop}
 use Rattle.refusal.specs.Table.{Row, refusal_of, OneOf, NoneFits}
 use Rattle.refusal.specs.Tests.{outside, any_outside, any_to, unequal}
+use Rattle.refusal.specs.Kinds.{number_of}
+use Rattle.refusal.specs.declared.kinds.Refusal.{Refusal}
+use Rattle.refusal.proofs.KindLaws.{part_refused}
 use Rattle.refusal.proofs.Laws.{accepted_none, none_accepted, first_refused, first_accepted}
 use Rattle.refusal.proofs.Among.{refusal_among, not_among}
 use Rattle.refusal.proofs.Within.{or_left, or_right, none_within, equal_false, unequal_true}
@@ -29,30 +32,22 @@ use Rattle.sheet.proofs.LineLaws.{line_numbered, output_accepted, length_llrs}
 use Rattle.frame_file.specs.FrameFile.{frame_line, frame_llrs, frame_table, frame_verdict, fed_table, line_verdict, tried_table, first_tried, end_verdict, LineFed, fed_verdict, fed_frame, Fed}
 
 -- ---- one line
-module _ (bytes llrs : List ℕ) where
-  module _ {verdict line r : ℕ} {after : List ℕ} (read : LineRead bytes llrs after line) where
-    -- the step for a line that is refused by its form
-    pub fed_refused : (line ≡ 0 → ⊥) → r ≡ first_tried verdict line → LineFed verdict bytes llrs after r
-    unfolding line_refusal line_verdict
-    fed_refused h e = record {
-      answer = e ∙ ap (first_tried verdict) (first_refused (line_table bytes llrs) (llrs_row 5 (line_llrs bytes) ∷ zeros_row 1 (line_llrs bytes) ∷ []) read.answer h);
-      llrs_are = read.llrs_are;
-    }
+module _ (bytes llrs : List ℕ) {r : ℕ} {after : List ℕ} (read : LineRead bytes llrs after r) where
+  -- a line that is refused by its form
+  pub form_refused : (refusal : Refusal) → r ≡ number_of refusal → number_of refusal ≡ line_verdict (length llrs) bytes
+  unfolding line_refusal line_verdict
+  form_refused refusal e =
+      part_refused (line_table bytes llrs) (llrs_row 5 (line_llrs bytes) ∷ zeros_row 1 (line_llrs bytes) ∷ []) refusal (sym e ∙ read.answer)
 
-    -- and for one that has its form
-    pub fed_accepted : {penalties : ℕ} → line ≡ 0 → penalties ≡ refusal_of (penalty_table 31 after) → r ≡ first_tried verdict penalties
-        → LineFed verdict bytes llrs after r
-    unfolding line_refusal line_verdict
-    fed_accepted {penalties} z p e =
-        let accepted = sym read.answer ∙ z in
-        let is = read.llrs_are ∙ output_accepted bytes llrs accepted in
-        let q = p ∙ ap (λ (xs : List ℕ). refusal_of (penalty_table 31 xs)) is
-        ∙ ap (λ (k : ℕ). refusal_of ((8, any_outside 0 31 (line_llrs bytes)) ∷ zeros_row (k / 64) (line_llrs bytes) ∷ [])) (length_llrs bytes llrs) in
-        record {
-          answer = e ∙ ap (first_tried verdict)
-              (first_accepted (line_table bytes llrs) (llrs_row 5 (line_llrs bytes) ∷ zeros_row 1 (line_llrs bytes) ∷ []) (line_numbered bytes llrs) accepted q);
-          llrs_are = read.llrs_are;
-        }
+  -- and one that has its form: its penalties decide
+  pub penalties_decide : {penalties : ℕ} → r ≡ 0 → penalties ≡ refusal_of (penalty_table 31 after) → penalties ≡ line_verdict (length llrs) bytes
+  unfolding line_refusal line_verdict
+  penalties_decide z p =
+      let accepted = sym read.answer ∙ z in
+      let is = read.llrs_are ∙ output_accepted bytes llrs accepted in
+      first_accepted (line_table bytes llrs) (llrs_row 5 (line_llrs bytes) ∷ zeros_row 1 (line_llrs bytes) ∷ []) (line_numbered bytes llrs) accepted
+      (p ∙ ap (λ (xs : List ℕ). refusal_of (penalty_table 31 xs)) is
+      ∙ ap (λ (k : ℕ). refusal_of ((8, any_outside 0 31 (line_llrs bytes)) ∷ zeros_row (k / 64) (line_llrs bytes) ∷ [])) (length_llrs bytes llrs))
 
 -- ---- verdicts of three tests
 abbrev three_tests : (broken large empty : Bool) → List Row
