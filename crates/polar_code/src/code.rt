@@ -1,6 +1,6 @@
 // A code as a call is given it, and what it is refused by: its layers and lengths, and the bytes of the frozen map and
 // the coefficients.
-ghost use Rattle.std.specs.Prelude.{◌≡◌, ◌≤◌, ◌^◌, OnOk, length};
+ghost use Rattle.std.specs.Prelude.{◌≡◌, ◌≤◌, ◌*◌, ◌/◌, ◌^◌, OnOk, length};
 ghost use Rattle.refusal.specs.Table.{refusal_of};
 ghost use Rattle.refusal.specs.Kinds.{number};
 ghost use Rattle.polar_code.specs.Code as specs;
@@ -36,6 +36,7 @@ impl<'a> Code<'a> {
         ensures refusal { number result ≡ refusal_of (code_sizes self.now) }
         ensures layers { OnOk result (self.now.n ≤ 8) }
         ensures places { OnOk result (length self.now.map ≡ 2 ^ self.now.n) }
+        ensures kernels { OnOk result (length self.now.coefs ≡ self.now.n * (2 ^ self.now.n / 2)) }
     {
         require((1..=8).contains(&self.n), Refusal::Layers)?;
         require(self.map.len() == place_count(self.n), Refusal::Length)?;

@@ -1,12 +1,13 @@
 // The code sheet.
 ghost use Rattle.std.specs.Prelude.{◌≡◌, [], ◌∷◌, ◌++◌, length};
+ghost use Rattle.refusal.specs.Kinds.{number};
 ghost use Rattle.columns.specs.Columns.{line, lines};
-ghost use Rattle.polar_code.specs.Code.{code_of};
 ghost use Rattle.writer.specs.CodeSheet.{sheet_of, sheet_write_refusal, SheetWritten};
 ghost use Rattle.writer.specs.Parts.{LinesRoom, BothRoom, SheetRoom};
 
 use columns::write_number;
-use polar_code::{kernel_count, place_count};
+use polar_code::Code;
+use refusal::{Refusal, require};
 
 // The columns of a number.
 const COLUMNS: usize = 4;
@@ -19,8 +20,8 @@ fn write_line(v: u8, out: &mut [u8])
     requires { length out.old ≡ 5 }
     ensures { out.new ≡ line 4 (v ∷ []) }
 {
-    write_number(v as u32, &mut out[..COLUMNS]);
-    out[COLUMNS] = 10;
+    write_number(u32::from(v), &mut out[..COLUMNS]);
+    out[COLUMNS] = b'\n';
 }
 
 // Writes numbers, each on a line of its own.
@@ -28,12 +29,9 @@ fn write_lines(numbers: &[u8], out: &mut [u8])
     requires { LinesRoom numbers.now out.old }
     ensures { out.new ≡ lines 4 numbers.now }
 {
-    let mut i: usize = 0;
-    while i < numbers.len() {
+    for (i, number) in numbers.iter().enumerate() {
         let at = LINE * i;
-        let end = at + LINE;
-        write_line(numbers[i], &mut out[at..end]);
-        i += 1;
+        write_line(*number, &mut out[at..at + LINE]);
     }
 }
 
@@ -48,38 +46,39 @@ fn write_both(first: &[u8], second: &[u8], out: &mut [u8])
 }
 
 // Writes the sheet of a code: n, the map, the coefficients.
-fn write_code(n: usize, map: &[u8], coefs: &[u8], out: &mut [u8])
-    requires { SheetRoom (code_of n map.now coefs.now) out.old }
-    ensures { out.new ≡ sheet_of (code_of n map.now coefs.now) }
+fn write_code(code: &Code, out: &mut [u8])
+    requires { SheetRoom code.now out.old }
+    ensures { out.new ≡ sheet_of code.now }
 {
-    let layers = [n as u8];
-    write_lines(&layers, &mut out[..LINE]);
-    write_both(map, coefs, &mut out[LINE..]);
+    write_line(code.n as u8, &mut out[..LINE]);
+    write_both(code.map, code.coefs, &mut out[LINE..]);
 }
 
-// The number by which `write_sheet` refuses, 0 where it accepts its input: the first test that fits, in document 01's
-// order.
-fn write_refusal(n: usize, map: &[u8], coefs: &[u8], out: &[u8]) -> u8
-    ensures { result ≡ sheet_write_refusal (code_of n map.now coefs.now) out.now }
+// Goes down the table of `write_sheet`, in document 01's order.
+#[tactic(auto, using(refusal::proofs::KindLaws::number_nonzero), unfolding(
+    refusal::specs::Table::refusal_of,
+    refusal::specs::Tests::unequal,
+    crate::specs::CodeSheet::sheet_write_refusal
+))]
+fn check(code: &Code, out: &[u8]) -> Result<(), Refusal>
+    ensures { number result ≡ sheet_write_refusal code.now out.now }
 {
-    let count = 1 + place_count(n) + kernel_count(n);
-    let r = polar_code::size_refusal(n, map, coefs);
-    let r = refusal::first(r, 2, out.len() != LINE * count);
-    refusal::or_else(r, polar_code::code_refusal(map, coefs))
+    code.check_sizes()?;
+    require(out.len() == LINE * (1 + code.map.len() + code.coefs.len()), Refusal::Length)?;
+    code.check_bytes()
 }
 
-// Writes the sheet of a code into a buffer of just its length, 5 × (1 + N + n × N/2) bytes, for any n, any map and
-// coefficients and any buffer. Returns 0, with the sheet in the buffer: n, the N map bytes and the n × N/2
-// coefficients, each on a line of its own; or the lowest refusal of 1, 2, 4, 5 and 6 that fits, and leaves the buffer
-// as it came.
-pub fn write_sheet(n: usize, map: &[u8], coefs: &[u8], out: &mut [u8]) -> u8
-    ensures { SheetWritten (code_of n map.now coefs.now) out.old
-        out.new result }
+// Writes the sheet of a code into a buffer of just its length, 5 × (1 + N + n × N/2) bytes, for any code and any buffer:
+// n, the N map bytes and the n × N/2 coefficients, each on a line of its own. Refuses by the lowest of Layers (1),
+// Length (2), MapByte (4), NoMessagePlace (5) and Coefficient (6) that fits, and leaves the buffer as it came.
+#[tactic(auto, using(
+    refusal::proofs::KindLaws::left_kept,
+    refusal::proofs::KindLaws::left_made
+), unfolding(crate::specs::CodeSheet::sheet_buffer))]
+pub fn write_sheet(code: &Code, out: &mut [u8]) -> Result<(), Refusal>
+    ensures { SheetWritten code.now out.old out.new (number result) }
 {
-    let refused = write_refusal(n, map, coefs, out);
-    if refused != 0 {
-        return refused;
-    }
-    write_code(n, map, coefs, out);
-    0
+    check(code, out)?;
+    write_code(code, out);
+    Ok(())
 }
