@@ -16,10 +16,7 @@ use lib.ListN.{length, get_or, drop, drop_of_length-le}
 use lib.Seq.{drop-cons}
 use Rattle.refusal.specs.Tests.{outside, any_outside, any_to}
 use Rattle.refusal.specs.Table.{Row, refusal_of, NoneFits, OneOf, Numbered}
-use Rattle.refusal.specs.Kinds.{number_of}
-use Rattle.refusal.specs.declared.kinds.Refusal.{Refusal}
-use Rattle.refusal.proofs.KindLaws.{part_refused}
-use Rattle.refusal.proofs.Laws.{accepted_none, first_accepted, both_accepted, accepted_both}
+use Rattle.refusal.proofs.Laws.{accepted_none, first_refused, first_accepted, both_accepted, accepted_both}
 use Rattle.refusal.proofs.WalkLaws.{numbered, same_after}
 use Rattle.refusal.proofs.Among.{Among, refusal_among}
 use Rattle.refusal.proofs.AnyTo.{any_there, none_there, each_not}
@@ -249,9 +246,9 @@ module _ (code : Code) (settings : Settings) (frame : List ℕ) (lent : Lent) wh
   contents_numbered = numbered contents tt
 
   -- the sizes are refused
-  pub size_refused : (r : Refusal) → number_of r ≡ refusal_of sizes → number_of r ≡ decode_refusal code settings frame lent
+  pub size_refused : (r : ℕ) → r ≡ refusal_of sizes → (r ≡ 0 → ⊥) → r ≡ decode_refusal code settings frame lent
   unfolding decode_refusal
-  size_refused r e = part_refused sizes contents r e
+  size_refused r e h = first_refused sizes contents e h
 
   -- they are accepted: the frame has 2^n vectors, and the rest decides
   pub size_accepted : (r : ℕ) → refusal_of sizes ≡ 0

@@ -1,5 +1,6 @@
 -- `premise_holds` says whether the premise of the noiseless statement holds: by the corollary, with a Qm and an m that
 -- are accepted, as the premise goes by neither.
+use Rattle.std.proofs.Common.{Result, Ok, Bool, true}
 use native.Mathlib.Omega.{arith}
 use Rattle.refusal.specs.Tests.{Within}
 use Rattle.scms.specs.Mode.{all_candidates}

@@ -1,4 +1,5 @@
 -- The table of worked rows holds, by computing every row from the definitions; the two claims on the premise come from the corollary.
+use Rattle.std.proofs.Common.{Result, Ok, Bool, true}
 use mathlib.Core.Path.{◌≡◌, refl, sym, ap₂, ◌∙◌}
 use mathlib.Core.Bool.{false}
 use mathlib.Core.List.{List, ◌++◌, map-append}

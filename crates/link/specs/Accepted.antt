@@ -1,7 +1,7 @@
 -- No call of the chain refuses what the one before it answered. The premise of a statement is what the call before
 -- promises, with the answer 0, which is that it accepted; the conclusion is that the next call accepts, or by which
 -- numbers it does not refuse.
-use Rattle.std.specs.Prelude.{ℕ, ◌*◌, ◌/◌, ◌^◌, ◌≤◌, ◌<◌, ◌≡◌, List, [], ◌∷◌, ℤ, pos, nat_abs, length, get_or, take}
+use Rattle.std.specs.Prelude.{ℕ, ◌*◌, ◌/◌, ◌^◌, ◌≤◌, ◌<◌, ◌≡◌, List, [], ◌∷◌, ℤ, pos, nat_abs, length, get_or, take, Ok}
 use Rattle.refusal.specs.Table.{OneOf}
 use Rattle.refusal.specs.Tests.{Within}
 use Rattle.polar_code.specs.Code.{Code, code_of, IsCode}
@@ -11,7 +11,6 @@ use Rattle.ccsk.specs.Spread.{spread_refusal, Spread}
 use Rattle.demapper.specs.Demap.{demap_refusal, Demapped}
 use Rattle.demapper.specs.Noiseless.{number_samples}
 use Rattle.sheet.specs.CodeSheet.{SheetRead}
-use Rattle.sheet.specs.declared.code_sheet.Answer.TheVariants.{Layers}
 use Rattle.decoder_refusal.specs.Refusals.{Settings, Lent, BuffersFit, decode_refusal}
 
 -- a sheet that `read_sheet` accepted: `decode`, given n and the first N and n × N/2 bytes of the two buffers, does not
@@ -19,7 +18,7 @@ use Rattle.decoder_refusal.specs.Refusals.{Settings, Lent, BuffersFit, decode_re
 abbrev pub SheetAccepted : (bytes map_before coefs_before map coefs : List ℕ) (n : ℕ) → Settings → (frame : List ℕ)
     → Lent → Type 0
 SheetAccepted bytes map_before coefs_before map coefs n settings frame lent =
-    SheetRead bytes map_before coefs_before map coefs (Layers n)
+    SheetRead bytes map_before coefs_before map coefs (Ok n)
     → OneOf (decode_refusal (code_of n (take (2 ^ n) map) (take (n * (2 ^ n / 2)) coefs)) settings frame lent)
     (0 ∷ 2 ∷ 3 ∷ 13 ∷ 8 ∷ 9 ∷ [])
 

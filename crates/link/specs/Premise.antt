@@ -1,5 +1,5 @@
 -- What `premise_holds` of distances says of the premise of the noiseless statement (document 02, request 06).
-use Rattle.std.specs.Prelude.{◌≡◌}
+use Rattle.std.specs.Prelude.{Result, Ok, Bool, true, false, ◌≡◌}
 use Rattle.refusal.specs.Tests.{Within}
 use Rattle.refusal.specs.declared.kinds.Refusal.{Refusal}
 use Rattle.distances.specs.Premise.{Accepted, PremiseAnswered}

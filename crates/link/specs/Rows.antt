@@ -1,6 +1,6 @@
 -- Document 01, 'Frames worked by hand': the rows that are proved, each as what the definitions give and what the paper
 -- says.
-use Rattle.std.specs.Prelude.{ℕ, ◌+◌, ◌-◌, ◌^◌, ◌≡◌, List, [], ◌∷◌, ◌++◌, map, ℤ, pos, neg_ℤ, get_or, take, set, replicate}
+use Rattle.std.specs.Prelude.{Result, Ok, Bool, true, false, ℕ, ◌+◌, ◌-◌, ◌^◌, ◌≡◌, List, [], ◌∷◌, ◌++◌, map, ℤ, pos, neg_ℤ, get_or, take, set, replicate}
 use Rattle.refusal.specs.Table.{refusal_of}
 use Rattle.refusal.specs.Returned.{Returned}
 use Rattle.vector.specs.Vector.{tabulate, joined}

@@ -9,6 +9,7 @@ use borrow.Author.Tests.{le-ltb, not-false}
 use lib.Dec.{eqb}
 use lib.ListN.{length, get_or, take, drop, length-append, get_or-append}
 use lib.Seq.{get_or-append-add}
+use Rattle.std.proofs.Common.{Result, Ok, Err}
 use Rattle.refusal.specs.Returned.{Returned}
 use Rattle.refusal.specs.Table.{NoneFits}
 use Rattle.refusal.specs.Tests.{outside, any_outside}
@@ -25,9 +26,9 @@ use Rattle.polar_code.specs.Code.{Code, code_of, message_places, IsCode}
 use Rattle.polar_code.proofs.CodeLaws.{code_bytes}
 use Rattle.sheet.specs.CodeSheet.{bad_line, number_on, numbers_on, sheet_layers, sheet_places, sheet_kernels, sheet_lines}
 use Rattle.sheet.specs.CodeSheet.{sheet_map, sheet_coefs, form_table, content_table, sheet_refusal}
-use Rattle.sheet.specs.CodeSheet.{returned, sheet_answer, map_read, coefs_read}
-use Rattle.sheet.specs.declared.code_sheet.Answer.{Answer}
-use Rattle.sheet.specs.declared.code_sheet.Answer.TheVariants.{Layers, Refused}
+use Rattle.sheet.specs.CodeSheet.{sheet_answer, map_read, coefs_read}
+use Rattle.refusal.specs.declared.kinds.Refusal.{Refusal}
+use Rattle.refusal.specs.Kinds.{returned}
 use Rattle.sheet.proofs.SheetLaws.{sheet_accepts, rows, layers_are, map_front, coefs_front}
 use Rattle.sheet.proofs.SheetLaws.{accepted as sheet_accepted, lines as all_lines}
 use Rattle.writer.specs.CodeSheet.{sheet_numbers, sheet_of}
@@ -182,13 +183,12 @@ module _ (code : Code) (is_code : IsCode code) where
     read_accepts = sheet_accepts written map coefs form content
 
 -- an answer with the number 0 and one value is n
-answer_is : (a : Answer) (n : ℕ) → returned a ≡ record { number = 0; values = n ∷ [] } → a ≡ Layers n
-unfolding returned
-answer_is (Layers m) n e = ap Layers (ap (λ (x : Returned). get_or x.values 0 0) e)
-answer_is (Refused k) n e = absurd (let z = ap (λ (x : Returned). length x.values) e in omega arith)
+answer_is : (a : Result ℕ Refusal) (n : ℕ) → returned a ≡ record { number = 0; values = n ∷ [] } → a ≡ Ok n
+answer_is (Ok m) n e = ap Ok (ap (λ (x : Returned). get_or x.values 0 0) e)
+answer_is (Err k) n e = absurd (let z = ap (λ (x : Returned). length x.values) e in omega arith)
 
 -- what is written is read back
-pub sheet_read_back : (code : Code) (out bytes map coefs new_map new_coefs : List ℕ) (answer : Answer)
+pub sheet_read_back : (code : Code) (out bytes map coefs new_map new_coefs : List ℕ) (answer : Result ℕ Refusal)
     → SheetReadBack code out bytes map coefs new_map new_coefs answer
 unfolding sheet_answer map_read coefs_read
 sheet_read_back code out bytes map coefs new_map new_coefs answer done map_room coefs_room read =

@@ -1,11 +1,11 @@
 -- The table in two parts.
 use Rattle.std.proofs.Common.{◌∙◌, sym}
-use Rattle.refusal.proofs.KindLaws.{exit_number}
+use Rattle.refusal.proofs.KindLaws.{exit_number, number_nonzero}
 use Rattle.decoder_refusal.proofs.RefusalLaws.{size_refused, size_accepted}
 use Rattle.decoder_refusal.proofs.call.check.Goals as goal
 
 pub returns-in_err-check_sizes : goal.returns-in_err-check_sizes
-returns-in_err-check_sizes c = exit_number _ _ c.from_residual.ensures.1 ∙ size_refused _ _ _ _ _ c.in_err-check_sizes.ensures
+returns-in_err-check_sizes c = exit_number _ _ c.from_residual.ensures.1 ∙ size_refused _ _ _ _ _ c.in_err-check_sizes.ensures (number_nonzero _)
 
 pub returns : goal.returns
 returns c = size_accepted _ _ _ _ _ (sym c.in_ok-check_sizes.ensures) c.check_contents.ensures
