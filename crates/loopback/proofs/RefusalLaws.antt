@@ -1,6 +1,6 @@
 -- The laws of the refusals of `round_trip`: the two parts of its table, and what it means that a call is accepted.
 use mathlib.Core.Path.{◌≡◌}
-use mathlib.Core.List.{List, ◌++◌}
+use mathlib.Core.List.{List}
 use Prim.Native.Nat.{ℕ, ◌*◌, ◌^◌}
 use borrow.Author.Tests.{ne_eqb, eqb-false}
 use lib.ListN.{length, drop}
@@ -8,18 +8,12 @@ use Rattle.refusal.specs.Table.{Row, refusal_of, NoneFits, Numbered}
 use Rattle.refusal.proofs.Laws.{first_refused, first_accepted, both_accepted, accepted_both}
 use Rattle.refusal.proofs.WalkLaws.{numbered}
 use Rattle.refusal.proofs.Within.{inside_within, within_inside, none_within, within_none, false_equal, equal_false}
-use Rattle.polar_code.specs.Code.{message_places, code_sizes}
-use Rattle.polar_code.specs.Sizes.{places_of}
-use Rattle.polar_code.proofs.CodeLaws.{rows_code, sizes_of_code, code_bytes, after_sizes}
+use Rattle.polar_code.specs.Code.{message_places}
+use Rattle.polar_code.proofs.CodeLaws.{rows_code, sizes_of_code, code_bytes}
 use Rattle.ccsk.specs.Chips.{turned}
 use Rattle.decoder_refusal.proofs.RefusalLaws.{rows_buffers, buffers_rows}
 use Rattle.link.specs.Noiseless.{Transmission, Reception}
-use Rattle.loopback.specs.Refusals.{TripLent, trip_rows, size_table, content_table, trip_refusal, TripInput}
-
--- the rows as `size_refusal` tries them: with the places that `place_count` gives
-pub buffers_tried : (s : Transmission) (lent : TripLent) {r : ℕ} → r ≡ refusal_of (code_sizes s.code ++ trip_rows (places_of s.code.n) s lent)
-    → r ≡ refusal_of (size_table s lent)
-buffers_tried s lent = after_sizes s.code (λ places. trip_rows places s lent)
+use Rattle.loopback.specs.Refusals.{TripLent, size_table, content_table, trip_refusal, TripInput}
 
 module _ (s : Transmission) (r : Reception) (lent : TripLent) where
   -- the first part of the table

@@ -40,3 +40,10 @@ module _ {s : Transmission} {codeword₀ numbers₀ : List ℕ} {samples : List 
     sent after is =
         is ∙ ap (number_samples s.amplitude) (is_numbers s.base codeword numbers₀ numbers spread_so)
         ∙ ap (λ (w : List ℕ). number_samples s.amplitude (numbers_of s.base w)) (is_codeword s.code s.message codeword₀ codeword encoded)
+
+-- the same, where the calls are made on an equal transmission
+pub sent_for : {s s' : Transmission} {codeword₀ numbers₀ codeword numbers : List ℕ} {samples after : List ℤ} {r q : ℕ} → s ≡ s'
+    → SendingWith s' codeword₀ numbers₀ samples → Encoded s.code s.message codeword₀ codeword r → Spread s.base codeword numbers₀ numbers q
+    → after ≡ number_samples s.amplitude numbers → after ≡ message_samples s'
+sent_for {codeword₀ = codeword₀} {numbers₀} {samples = samples} {after = after} at g e f is =
+    sent (subst (λ (x : Transmission). SendingWith x codeword₀ numbers₀ samples) (sym at) g) e f after is ∙ ap message_samples at

@@ -13,9 +13,11 @@ use Rattle.demapper.specs.Demap.{frame_of, Demapped}
 use Rattle.scms.specs.Mode.{Mode, mode_of}
 use Rattle.scms.specs.Decoder as scms
 use Rattle.decoder_refusal.specs.Refusals.{decode_refusal, Lent}
-use Rattle.decoder.specs.declared.decoder.Answer.{Answer}
-use Rattle.decoder.specs.declared.decoder.Answer.TheVariants.{Refused}
-use Rattle.decoder.specs.Decode.{returned, decode_work, decode_report, Decoded}
+use Rattle.std.proofs.Common.{Result, Err}
+use Rattle.refusal.specs.Kinds.{number_of, returned}
+use Rattle.refusal.specs.declared.kinds.Refusal.{Refusal}
+use Rattle.refusal.proofs.KindLaws.{number_nonzero}
+use Rattle.decoder.specs.Decode.{decode_work, decode_report, Decoded}
 use Rattle.link.specs.Noiseless.{Transmission, Reception, message_samples, message_frame, message_symbols, NoiselessPremise, GivenBack}
 use Rattle.link.proofs.Accepted.{demappable, is_demapped, frame_accepted}
 use Rattle.link.proofs.Noiseless.{noiseless_statement}
@@ -34,7 +36,7 @@ module _ (s : Transmission) (r : Reception) (lent : TripLent) where
   mode = mode_of r.settings.qm r.settings.candidates
 
   -- the promise from its equations and what `decode` promises: what else it says is the noiseless statement
-  promise : {after : TripLent} {a : Answer} → returned a ≡ trip_answer s r lent
+  promise : {after : TripLent} {a : Result ℕ Refusal} → returned a ≡ trip_answer s r lent
       → after.samples ≡ trip_samples s r lent → after.frame ≡ trip_frame s r lent
       → after.decoder.work ≡ trip_work s r lent → after.decoder.symbols ≡ trip_symbols s r lent
       → after.decoder.report ≡ trip_report s r lent → after.decoder.totals ≡ trip_totals s r lent → after.decoded ≡ trip_decoded s r lent
@@ -59,11 +61,11 @@ module _ (s : Transmission) (r : Reception) (lent : TripLent) where
       }
 
   -- a refusal: its number, and every buffer as it came
-  pub promise_refused : {number : ℕ} → number ≡ refusal → (number ≡ 0 → ⊥) → RoundTrip s r lent lent (Refused number)
-  unfolding returned trip_answer trip_samples trip_frame trip_work trip_symbols trip_report trip_totals trip_decoded
-  promise_refused {number} e ne =
+  pub promise_refused : (k : Refusal) → number_of k ≡ refusal → RoundTrip s r lent lent (Err k)
+  unfolding trip_answer trip_samples trip_frame trip_work trip_symbols trip_report trip_totals trip_decoded
+  promise_refused k e =
       let demapped = message_frame s r in
-      let h : (refusal ≡ 0 → ⊥) = λ z. ne (e ∙ z) in
+      let h : (refusal ≡ 0 → ⊥) = λ z. number_nonzero k (e ∙ z) in
       promise
       (λ i. record { number = e i; values = sym (when_refused refusal (scms.count s.code mode demapped ∷ []) [] h) i })
       (sym (when_refused refusal (message_samples s) lent.samples h))
@@ -76,8 +78,8 @@ module _ (s : Transmission) (r : Reception) (lent : TripLent) where
       (λ z. absurd (h z))
 
   -- a call that is not refused is accepted
-  pub not_refused : {k : ℕ} → k ≡ refusal → k ≡ 0 → TripInput s r lent
-  not_refused e z = accepted s r lent (sym e ∙ z)
+  pub not_refused : 0 ≡ refusal → TripInput s r lent
+  not_refused e = accepted s r lent (sym e)
 
   -- a call that is accepted
   module _ (t : TripInput s r lent) where
@@ -124,7 +126,7 @@ module _ (s : Transmission) (r : Reception) (lent : TripLent) where
           t.chain.sendable.is_code (long ∙ t.samples_long) t.chain.internal_precision t.chain.candidates_fit t.buffers
 
       -- after `decode` and `read_message`: all that is promised
-      pub promise_accepted : {after : Lent} {decoded' : List ℕ} {a : Answer} → Decoded s.code r.settings frame' lent.decoder after a
+      pub promise_accepted : {after : Lent} {decoded' : List ℕ} {a : Result ℕ Refusal} → Decoded s.code r.settings frame' lent.decoder after a
           → decoded' ≡ message_of s.code.map after.symbols
           → RoundTrip s r lent (record { samples = samples'; frame = frame'; decoder = after; decoded = decoded' }) a
       unfolding trip_answer trip_samples trip_frame trip_work trip_symbols trip_report trip_totals trip_decoded decode_work decode_report
@@ -145,3 +147,21 @@ module _ (s : Transmission) (r : Reception) (lent : TripLent) where
           (p.totalled k ∙ ap (scms.totals s.code mode) at-frame ∙ sym (when_accepted refusal (scms.totals s.code mode demapped) lent.decoder.totals none))
           (m ∙ ap (message_of s.code.map) decided ∙ sym (when_accepted refusal (message_of s.code.map (message_symbols s r)) lent.decoded none))
           (λ z. p)
+
+-- calls made on a transmission equal to the one that is sent, whose map is lent
+module _ {s s' : Transmission} (at : s ≡ s') {map : List ℕ} (same : map ≡ s.code.map) {r : Reception} {lent : TripLent} (t : TripInput s' r lent) where
+  -- what `read_message` is given
+  pub reading_for : {symbols' : List ℕ} → length symbols' ≡ length lent.decoder.symbols → Reading map symbols' lent.decoded
+  reading_for {symbols'} l =
+      subst (λ (m : List ℕ). Reading m symbols' lent.decoded) (sym (same ∙ ap (λ (x : Transmission). x.code.map) at)) (reading s' r lent t l)
+
+  -- all that is promised
+  pub promise_for : {samples' : List ℤ} {frame' decoded' : List ℕ} {q : ℕ} {after : Lent} {a : Result ℕ Refusal} → samples' ≡ message_samples s'
+      → length samples' ≡ length lent.samples → Demapped s.base r.top r.bottom r.settings.qc samples' lent.frame frame' q
+      → Decoded s.code r.settings frame' lent.decoder after a → decoded' ≡ message_of map after.symbols
+      → RoundTrip s' r lent (record { samples = samples'; frame = frame'; decoder = after; decoded = decoded' }) a
+  promise_for {samples'} {frame'} {q = q} {after} {a} is long d p m =
+      promise_accepted s' r lent t is long
+      (subst (λ (x : Transmission). Demapped x.base r.top r.bottom r.settings.qc samples' lent.frame frame' q) at d)
+      (subst (λ (x : Transmission). Decoded x.code r.settings frame' lent.decoder after a) at p)
+      (m ∙ ap (λ (x : List ℕ). message_of x after.symbols) (same ∙ ap (λ (x : Transmission). x.code.map) at))

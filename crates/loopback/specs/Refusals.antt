@@ -8,6 +8,8 @@ use Rattle.polar_code.specs.Code.{message_places, code_sizes}
 use Rattle.ccsk.specs.Chips.{base_row}
 use Rattle.demapper.specs.Demap.{gain_row}
 use Rattle.decoder_refusal.specs.Refusals.{Lent, lent_of, code_rows, buffer_rows, BuffersFit}
+use Rattle.loopback.specs.declared.given.TripLent as lent
+use Rattle.loopback.specs.declared.given.Reception as given
 use Rattle.link.specs.Noiseless.{Transmission, Reception, ChainInput}
 
 -- 19: the amplitude is outside 1 to 127. Document 01 has no number for it; this one is document 02's (request 14) for
@@ -28,6 +30,14 @@ abbrev pub trip_lent_of : (samples : List ℤ) (frame work symbols report totals
 trip_lent_of samples frame work symbols report totals decoded =
     record { samples = samples; frame = frame; decoder = lent_of work symbols report totals; decoded = decoded }
 
+-- what those buffers hold (src/given.rt)
+abbrev pub trip_now : lent.TripLent → TripLent
+trip_now l = trip_lent_of l.samples.now l.frame.now l.work.now l.symbols.now l.report.now l.totals.now l.decoded.now
+
+-- how the message is received (src/given.rt)
+abbrev pub received : given.Reception → Reception
+received r = record { top = r.gain.top; bottom = r.gain.bottom; settings = r.settings }
+
 -- the rows on the lengths of the message and of the buffers, for this many places
 abbrev pub trip_rows : (places : ℕ) → Transmission → TripLent → List Row
 trip_rows places s lent =
@@ -41,16 +51,19 @@ trip_rows places s lent =
 abbrev pub size_table : Transmission → TripLent → List Row
 size_table s lent = code_sizes s.code ++ trip_rows (2 ^ s.code.n) s lent
 
--- the rows on the settings, the code, the message, the base, the gain and the amplitude
-abbrev pub content_table : Transmission → Reception → List Row
-content_table s r =
-    code_rows s.code.map s.code.coefs r.settings
-    ++ symbols_row s.message
+-- the rows on the message, the base, the gain and the amplitude
+abbrev pub sent_rows : Transmission → (top bottom : ℕ) → List Row
+sent_rows s top bottom =
+    symbols_row s.message
     ∷ base_row s.base
-    ∷ gain_row r.top
-    ∷ gain_row r.bottom
+    ∷ gain_row top
+    ∷ gain_row bottom
     ∷ amplitude_row s.amplitude
     ∷ []
+
+-- the rows on the settings and the code's bytes, and then those
+abbrev pub content_table : Transmission → Reception → List Row
+content_table s r = code_rows s.code.map s.code.coefs r.settings ++ sent_rows s r.top r.bottom
 
 module _ (s : Transmission) (r : Reception) (lent : TripLent) where
   -- all rows

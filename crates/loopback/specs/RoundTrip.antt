@@ -1,15 +1,25 @@
 -- What `round_trip` promises.
-use Rattle.std.specs.Prelude.{ℕ, ◌*◌, ◌^◌, ◌≡◌, cond, List, [], ◌∷◌, eqb, ℤ, replicate}
+use Rattle.std.specs.Prelude.{ℕ, ◌*◌, ◌^◌, ◌≡◌, cond, List, [], ◌∷◌, eqb, ℤ, replicate, Result}
+use Rattle.std.specs.Borrow.{MutBor}
 use Rattle.polar.specs.Encode.{word_before}
 use Rattle.polar.specs.Message.{message_of}
 use Rattle.scms.specs.Mode.{Mode, mode_of}
 use Rattle.scms.specs.Decoder as scms
-use Rattle.decoder.specs.declared.decoder.Answer.{Answer}
+use Rattle.refusal.specs.Kinds.{returned}
+use Rattle.refusal.specs.declared.kinds.Refusal.{Refusal}
 use Rattle.refusal.specs.Returned.{Returned}
-use Rattle.decoder.specs.Decode.{returned, Decoded}
+use Rattle.decoder.specs.Decode.{Decoded}
 use Rattle.link.specs.Noiseless.{Transmission, Reception}
 use Rattle.link.specs.Noiseless.{message_samples, message_frame, message_symbols, NoiselessPremise}
-use Rattle.loopback.specs.Refusals.{TripLent, trip_refusal}
+use Rattle.loopback.specs.Refusals.{TripLent, trip_lent_of, trip_refusal}
+
+-- the buffers lent to `round_trip` when it returns, in their order
+abbrev Exit : Type 0
+Exit = MutBor (List ℤ) × (MutBor (List ℕ) × (MutBor (List ℕ) × (MutBor (List ℕ) × (MutBor (List ℕ) × (MutBor (List ℕ) × (MutBor (List ℕ) × Unit {0}))))))
+
+-- what they hold
+abbrev pub trip_after : Exit → TripLent
+trip_after l = trip_lent_of l.0.now l.1.0.now l.1.1.0.now l.1.1.1.0.now l.1.1.1.1.0.now l.1.1.1.1.1.0.now l.1.1.1.1.1.1.0.now
 
 module _ (s : Transmission) (r : Reception) (lent : TripLent) where
   -- the number of the refusal, 0 where the call is accepted
@@ -65,7 +75,7 @@ module _ (s : Transmission) (r : Reception) (lent : TripLent) where
   -- are those of one call of `decode` on the frame at exit, with all that it promises of them; and, where the premise
   -- of the noiseless statement holds, the symbols are the word before the transform and the decoded message is the
   -- message
-  pub record RoundTrip (after : TripLent) (a : Answer) : Type 0 where
+  pub record RoundTrip (after : TripLent) (a : Result ℕ Refusal) : Type 0 where
     pub answer : returned a ≡ trip_answer
     pub samples_are : after.samples ≡ trip_samples
     pub frame_is : after.frame ≡ trip_frame

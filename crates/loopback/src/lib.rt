@@ -3,8 +3,10 @@
 #![tactic(auto)]
 
 mod chain;
+mod given;
 mod message;
-mod refusals;
 mod samples;
+mod table;
 
 pub use chain::round_trip;
+pub use given::{Reception, Transmission, TripLent};

@@ -3,7 +3,7 @@ ghost use Rattle.std.specs.Prelude.{◌≡◌};
 ghost use Rattle.polar.specs.Message.{message_of};
 ghost use Rattle.loopback.specs.Parts.{Reading};
 
-use polar_code::{Kind, kind_of};
+use polar_code::Kind;
 
 // Reads the symbols at the message places of a word, in rising order.
 pub(crate) fn read_message(map: &[u8], word: &[u8], message: &mut [u8])
@@ -11,13 +11,10 @@ pub(crate) fn read_message(map: &[u8], word: &[u8], message: &mut [u8])
     ensures { message.new ≡ message_of map.now word.now }
 {
     let mut next: usize = 0;
-    let mut j: usize = 0;
-    while j < map.len() {
-        let kind = kind_of(map[j]);
-        if let Kind::Message = kind {
+    for (j, byte) in map.iter().enumerate() {
+        if let Kind::Message = Kind::from(*byte) {
             message[next] = word[j];
             next += 1;
         }
-        j += 1;
     }
 }

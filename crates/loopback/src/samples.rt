@@ -22,9 +22,7 @@ pub(crate) fn write_samples(numbers: &[u64], amplitude: u32, samples: &mut [i8])
     requires { Sampling numbers.now amplitude samples.old }
     ensures { samples.new ≡ number_samples amplitude numbers.now }
 {
-    let mut j: usize = 0;
-    while j < samples.len() {
+    for j in 0..samples.len() {
         samples[j] = sent_sample(numbers[j / 64], (j % 64) as u64, amplitude);
-        j += 1;
     }
 }
