@@ -21,7 +21,7 @@ pub loop-j-preserved : goal.loop-j-preserved
 loop-j-preserved c =
     let a = c.args in
     let at = c.loop-j in
-    let kind = sym c.from.ensures in
+    let kind : kind_of (get_or a.map.now at.j 0) ≡ c.from.result = search rules in
     elim c.match-from.branch [
       | in-Message w ↦ as_read w.message-is w.next-is (read_more a.map.now a.word.now a.message.now at.message at.next at.j (search rules) at.invariant (kind ∙ w.in-Message.is))
       | in_default w ↦ as_read w.message-is w.next-is (read_past a.map.now a.word.now a.message.now at.message at.next at.j (search rules) at.invariant (kind ∙ w.in_default.is))
