@@ -83,18 +83,18 @@ impl<F: BufRead> Input<F> {
         Ok(letter)
     }
 
-    // Reads the next token, which is this letter.
-    pub(crate) fn expect_letter(&mut self, wanted: u8) -> Result<(), BrokenRecord> {
-        if self.letter()? == wanted {
+    // Reads the next byte, which is this one.
+    pub(crate) fn expect_byte(&mut self, wanted: u8) -> Result<(), BrokenRecord> {
+        if self.byte()? == wanted {
             Ok(())
         } else {
             Err(BrokenRecord)
         }
     }
 
-    // Reads the end of a record.
+    // Reads the '.' that ends a record. `main` reads what follows, since a record with its '.' is whole.
     pub(crate) fn end_record(&mut self) -> Result<(), BrokenRecord> {
-        self.expect_letter(b'.')
+        self.expect_byte(b'.')
     }
 
     // The next token, a decimal number.

@@ -58,7 +58,8 @@ impl<R: Print, F: BufRead> Run<'_, R, F> {
     }
 }
 
-// Runs all records. The run ends with the input, and at a NUL byte in the place of a letter.
+// Runs all records. The run ends with the input, at a NUL byte in the place of a letter, and where no blank or line feed
+// follows a record.
 fn main(rt: HostRuntime) {
     let mut run = Run {
         rt: &rt,
@@ -71,6 +72,9 @@ fn main(rt: HostRuntime) {
         };
         if run.record(letter).is_err() {
             let _ = println!(rt; "record {i} breaks its form");
+            return;
+        }
+        if run.input.end_token().is_err() {
             return;
         }
     }

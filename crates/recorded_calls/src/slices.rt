@@ -84,7 +84,8 @@ impl<F: BufRead> Input<F> {
         let part = buffer.get_mut(..length).ok_or(BrokenRecord)?;
         let rule = self.letter()?;
         if rule == b'=' {
-            self.expect_letter(b';')?;
+            self.expect_byte(b';')?;
+            self.end_token()?;
         } else {
             self.put(part, rule)?;
         }
