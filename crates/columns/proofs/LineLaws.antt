@@ -17,8 +17,7 @@ use Rattle.columns.proofs.ColumnLaws.{length_field, field_spelled, same_refl, sa
 
 -- a test that can't hold does not
 pub refuted : (t : Bool) → (t ≡ true → ⊥) → t ≡ false
-refuted true h = absurd (h refl)
-refuted false h = refl
+refuted t h = grind (arith, h)
 
 -- ---- numbers in w columns each, one after the other, and something after them
 module _ (w : ℕ) where

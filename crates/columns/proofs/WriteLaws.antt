@@ -4,16 +4,14 @@ use mathlib.Core.List.{List, [], ◌∷◌, ◌++◌}
 use Prim.Native.Nat.{ℕ, zero, suc, ◌+◌, ◌-◌, ◌/◌, ◌≤◌, ◌<◌}
 use native.Mathlib.Nat.{not-suc-le-zero}
 use native.Mathlib.Omega.{arith}
-use lib.ListN.{length, drop, set, length-set, drop_of_length-le}
-use lib.Seq.{drop-cons, drop-set-lt, get_or-set_same, append_snoc}
+use lib.ListN.{length, drop, set, drop_of_length-le}
+use lib.Seq.{append_snoc}
+use Rattle.std.proofs.lemmas.Grind.{common_steps}
 use Rattle.columns.specs.Columns.{digit, column, before, field}
 
 -- the bytes from the one just stored on
 stored : (out : List ℕ) (j x : ℕ) → j < length out → drop j (set out j x) ≡ x ∷ drop (suc j) out
-stored out j x l =
-    let long = length-set out j x in
-    drop-cons (set out j x) j 0 (omega arith)
-    ∙ ap₂ (λ (y : ℕ) (ys : List ℕ). y ∷ ys) (get_or-set_same out j x 0 l) (drop-set-lt (suc j) out j x (omega arith))
+stored out j x l = grind (arith, common_steps)
 
 -- no column
 pub no_column : (v : ℕ) (out : List ℕ) → length out ≡ 0 → out ≡ field (length out) v
