@@ -9,6 +9,7 @@ use borrow.Author.Tests.{eqb-true, eqb-false}
 use lib.Dec.{eqb}
 use lib.ListN.{length, get_or, take, drop, length-append, take-append-drop, drop_of_length-le}
 use lib.Seq.{take_at, drop_at, drop-drop, drop-cons, get_or-drop}
+use Rattle.std.proofs.lemmas.Grind.{common_steps}
 use Rattle.vector.specs.Vector.{tabulate}
 use Rattle.vector.proofs.Laws.{length_tabulate, tabulate_by, tabulate_ext}
 use Rattle.columns.specs.Columns.{field, fields, line}
@@ -42,8 +43,7 @@ module _ (w : ℕ) where
   length_fields : (vs : List ℕ) → length (fields w vs) ≡ w * length vs
   unfolding fields
   length_fields [] = sym (mul-zero w)
-  length_fields (v ∷ vs) =
-      length-append (field w v) (fields w vs) ∙ (let a = length_field w v in let b = length_fields vs in let c = mul-suc w (length vs) in omega arith)
+  length_fields (v ∷ vs) = grind (arith, common_steps, length_field w v, length_fields vs, mul-suc w (length vs))
 
   -- part i is number i
   parts_of : (k : ℕ) (f : ℕ → ℕ) (tail : List ℕ) (i : ℕ) → i < k → part w i (fields w (tabulate k f) ++ tail) ≡ field w (f i)

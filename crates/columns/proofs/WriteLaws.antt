@@ -1,11 +1,10 @@
 -- Writing a number column by column, from the last column to the first: what is left to write, and what is already there, make up the whole.
-use mathlib.Core.Path.{◌≡◌, refl, sym, ap, ap₂, ◌∙◌}
+use mathlib.Core.Path.{◌≡◌, refl}
 use mathlib.Core.List.{List, [], ◌∷◌, ◌++◌}
 use Prim.Native.Nat.{ℕ, zero, suc, ◌+◌, ◌-◌, ◌/◌, ◌≤◌, ◌<◌}
 use native.Mathlib.Nat.{not-suc-le-zero}
 use native.Mathlib.Omega.{arith}
-use lib.ListN.{length, drop, set, drop_of_length-le}
-use lib.Seq.{append_snoc}
+use lib.ListN.{length, drop, set}
 use Rattle.std.proofs.lemmas.Grind.{common_steps}
 use Rattle.columns.specs.Columns.{digit, column, before, field}
 
@@ -24,12 +23,7 @@ pub last_column : (v : ℕ) (out : List ℕ) (last x : ℕ) → length out ≡ l
     → before last (v / 10) ++ drop last (set out last x) ≡ field (length out) v
 unfolding field
 last_column v [] last x long e = absurd (omega arith)
-last_column v (y ∷ ys) last x long e =
-    let k : length ys ≡ last = omega arith in
-    ap (λ (zs : List ℕ). before last (v / 10) ++ zs)
-    (stored (y ∷ ys) last x (omega arith)
-    ∙ ap₂ (λ (z : ℕ) (zs : List ℕ). z ∷ zs) e (drop_of_length-le (y ∷ ys) {i = suc last} (omega arith)))
-    ∙ ap (λ (j : ℕ). before j (v / 10) ++ digit v ∷ []) (sym k)
+last_column v (y ∷ ys) last x long e = grind (arith, common_steps)
 
 -- one column more
 pub more_columns : (k left : ℕ) (out : List ℕ) (x : ℕ) → 0 < k → k ≤ length out → x ≡ column left
@@ -38,10 +32,8 @@ unfolding before
 more_columns zero left out x l m e = absurd (not-suc-le-zero l)
 more_columns (suc j) left out x l m e =
     let k : suc j - 1 ≡ j = omega arith in
-    ap (λ (i : ℕ). before i (left / 10) ++ drop i (set out i x)) k
-    ∙ ap (λ (ys : List ℕ). before j (left / 10) ++ ys)
-    (stored out j x (omega arith) ∙ ap (λ (y : ℕ). y ∷ drop (suc j) out) e)
-    ∙ sym (append_snoc (before j (left / 10)) (column left) (drop (suc j) out))
+    let s = stored out j x (omega arith) in
+    grind (arith, common_steps)
 
 -- no column is left
 pub nothing_left : (left : ℕ) (out : List ℕ) → before 0 left ++ drop 0 out ≡ out
