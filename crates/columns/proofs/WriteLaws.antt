@@ -1,4 +1,5 @@
--- Writing a number column by column, from the last column to the first: what is left to write, and what is already there, make up the whole.
+-- Writing a number column by column, from the last column to the first: what is left to write, and what is already
+-- there, make up the whole.
 use mathlib.Core.Path.{◌≡◌, refl}
 use mathlib.Core.List.{List, [], ◌∷◌, ◌++◌}
 use Prim.Native.Nat.{ℕ, zero, suc, ◌+◌, ◌-◌, ◌/◌, ◌≤◌, ◌<◌}
