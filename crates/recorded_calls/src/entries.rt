@@ -11,48 +11,59 @@ pub(crate) trait Entry: Copy {
     fn added_to(self, sum: u64) -> u64;
 }
 
+// What a checksum is multiplied by for each number, and what it is counted modulo: the greatest prime below 2^32.
+const FACTOR: u64 = 1000003;
+
+const MODULUS: u64 = 4294967291;
+
 // A checksum with one more number.
 fn with_number(sum: u64, x: u32) -> u64 {
-    (sum % 4294967291 * 1000003 + u64::from(x)) % 4294967291
+    (sum % MODULUS * FACTOR + u64::from(x)) % MODULUS
 }
 
 impl Entry for u8 {
+    // A value of at most 255.
     fn from_value(value: u64) -> Result<u8, BrokenRecord> {
         Ok(u8::try_from(value)?)
     }
 
+    // It counts as itself.
     fn added_to(self, sum: u64) -> u64 {
         with_number(sum, u32::from(self))
     }
 }
 
 impl Entry for u16 {
+    // A value of at most 65,535.
     fn from_value(value: u64) -> Result<u16, BrokenRecord> {
         Ok(u16::try_from(value)?)
     }
 
+    // It counts as itself.
     fn added_to(self, sum: u64) -> u64 {
         with_number(sum, u32::from(self))
     }
 }
 
-// A sample stands and counts by its byte.
 impl Entry for i8 {
+    // The sample with this byte.
     fn from_value(value: u64) -> Result<i8, BrokenRecord> {
         Ok(u8::try_from(value)?.cast_signed())
     }
 
+    // It counts by its byte.
     fn added_to(self, sum: u64) -> u64 {
         with_number(sum, u32::from(self.cast_unsigned()))
     }
 }
 
-// A 64-bit number counts as two, its lower and its upper 32 bits.
 impl Entry for u64 {
+    // Any value.
     fn from_value(value: u64) -> Result<u64, BrokenRecord> {
         Ok(value)
     }
 
+    // It counts as two numbers, its lower and its upper 32 bits.
     fn added_to(self, sum: u64) -> u64 {
         with_number(
             with_number(sum, (self & 0xffff_ffff) as u32),

@@ -58,8 +58,8 @@ impl<R: Print, F: BufRead> Run<'_, R, F> {
     }
 }
 
-// Runs all records. The run ends with the input, at a NUL byte in the place of a letter, and where no blank or line feed
-// follows a record.
+// Runs all records. The run ends with the input, at a NUL byte in the place of a letter, and where no blank or line
+// feed follows a record.
 fn main(rt: HostRuntime) {
     let mut run = Run {
         rt: &rt,
