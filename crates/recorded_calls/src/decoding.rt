@@ -2,7 +2,7 @@
 use crate::entries::checksum;
 use crate::input::{BrokenRecord, Input};
 use crate::run::{Answer, Run, print_line};
-use crate::slices::{CodeBuffers, LONGEST, PLACES};
+use crate::slices::{Code, CodeBuffers, LONGEST, PLACES};
 use std::io::BufRead;
 
 // What a round trip is given beside the code and the message.
@@ -30,6 +30,57 @@ impl Link {
             candidates: input.number()?,
         })
     }
+}
+
+// What a round trip is lent to be written.
+#[derive(Drop)]
+struct Lent<'a> {
+    samples: &'a mut [i8],
+    frame: &'a mut [u16],
+    work: &'a mut [u16],
+    symbols: &'a mut [u8],
+    report: &'a mut [u16],
+    totals: &'a mut [u16],
+    decoded: &'a mut [u8],
+}
+
+impl Lent<'_> {
+    // The checksums of these slices.
+    fn checksums(&self) -> [u64; 7] {
+        [
+            checksum(self.samples),
+            checksum(self.frame),
+            checksum(self.work),
+            checksum(self.symbols),
+            checksum(self.report),
+            checksum(self.totals),
+            checksum(self.decoded),
+        ]
+    }
+}
+
+// `loopback::round_trip`.
+fn trip(code: Code<'_>, message: &[u8], link: Link, lent: &mut Lent<'_>) -> Answer {
+    Answer::from(loopback::round_trip(
+        code.n,
+        code.map,
+        code.coefs,
+        message,
+        link.base,
+        link.amplitude,
+        link.top,
+        link.bottom,
+        link.qc,
+        link.qm,
+        link.candidates,
+        lent.samples,
+        lent.frame,
+        lent.work,
+        lent.symbols,
+        lent.report,
+        lent.totals,
+        lent.decoded,
+    ))
 }
 
 impl<R: Print, F: BufRead> Run<'_, R, F> {
@@ -74,7 +125,7 @@ impl<R: Print, F: BufRead> Run<'_, R, F> {
         Ok(())
     }
 
-    // `loopback::round_trip`.
+    // A round trip.
     pub(crate) fn round_trip(&mut self) -> Result<(), BrokenRecord> {
         let mut code = CodeBuffers::new();
         let mut message = [0u8; PLACES];
@@ -84,44 +135,18 @@ impl<R: Print, F: BufRead> Run<'_, R, F> {
         let code = self.input.code(&mut code)?;
         let message = self.input.slice(&mut message)?;
         let link = Link::read(&mut self.input)?;
-        let samples = self.input.slice(&mut self.kept.samples)?;
-        let frame = self.input.slice(&mut self.kept.frame)?;
-        let work = self.input.slice(&mut work)?;
-        let symbols = self.input.slice(&mut self.kept.symbols)?;
-        let report = self.input.slice(&mut report)?;
-        let totals = self.input.slice(&mut totals)?;
-        let decoded = self.input.slice(&mut self.kept.text)?;
+        let mut lent = Lent {
+            samples: self.input.slice(&mut self.kept.samples)?,
+            frame: self.input.slice(&mut self.kept.frame)?,
+            work: self.input.slice(&mut work)?,
+            symbols: self.input.slice(&mut self.kept.symbols)?,
+            report: self.input.slice(&mut report)?,
+            totals: self.input.slice(&mut totals)?,
+            decoded: self.input.slice(&mut self.kept.text)?,
+        };
         self.input.end_record()?;
-        let answer = loopback::round_trip(
-            code.n,
-            code.map,
-            code.coefs,
-            message,
-            link.base,
-            link.amplitude,
-            link.top,
-            link.bottom,
-            link.qc,
-            link.qm,
-            link.candidates,
-            samples,
-            frame,
-            work,
-            symbols,
-            report,
-            totals,
-            decoded,
-        );
-        let sums = [
-            checksum(samples),
-            checksum(frame),
-            checksum(work),
-            checksum(symbols),
-            checksum(report),
-            checksum(totals),
-            checksum(decoded),
-        ];
-        print_line(self.rt, Answer::from(answer), &sums);
+        let answer = trip(code, message, link, &mut lent);
+        print_line(self.rt, answer, &lent.checksums());
         Ok(())
     }
 }
