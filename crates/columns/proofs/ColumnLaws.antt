@@ -1,14 +1,12 @@
 -- The laws of a number in columns: writing is one to one, and reading undoes it.
 use mathlib.Core.Path.{◌≡◌, refl, sym, ap, ap₂, ◌∙◌, subst}
-use mathlib.Core.Bool.{Bool, true, false, cond, ◌&&◌}
+use mathlib.Core.Bool.{true}
 use mathlib.Core.List.{List, [], ◌∷◌, ◌++◌}
 use Prim.Native.Nat.{ℕ, zero, suc, ◌+◌, ◌-◌, ◌*◌, ◌/◌, ◌%◌, ◌^◌, ◌<◌}
 use native.Mathlib.Nat.{pow-suc}
-use native.Mathlib.Decide.{ℕ_discrete}
 use native.Mathlib.Omega.{arith}
-use borrow.Author.Tests.{eq-eqb, ne_eqb, eqb-true}
-use lib.Dec.{eqb}
 use lib.ListN.{length, length-append}
+use Rattle.std.proofs.lemmas.Bool.Decides.{nat_tests}
 use Rattle.columns.specs.Columns.{digit, column, before, field}
 use Rattle.columns.specs.Reading.{spelled_from, spelled, same, is_field}
 
@@ -44,11 +42,7 @@ digit_counts v = omega arith
 -- and so does a column before the last; a blank counts as 0
 column_counts : (v : ℕ) → column v - 48 ≡ v % 10
 unfolding column
-column_counts v = go (ℕ_discrete v 0)
-  where
-    go : Dec (v ≡ 0) → cond (eqb v 0) 32 (digit v) - 48 ≡ v % 10
-    go (yes z) = ap (λ (t : Bool). cond t 32 (digit v) - 48) (eq-eqb v 0 z) ∙ (let e : 0 ≡ v % 10 = omega arith in e)
-    go (no h) = ap (λ (t : Bool). cond t 32 (digit v) - 48) (ne_eqb v 0 h) ∙ digit_counts v
+column_counts v = let d = digit_counts v in grind (arith, nat_tests)
 
 -- the columns before the last spell what is left of the number, if it has no more digits than there are columns
 before_spelled : (w v : ℕ) → v < 10 ^ w → spelled (before w v) ≡ v
@@ -100,19 +94,15 @@ field_small (suc w) v =
 pub same_refl : (xs : List ℕ) → same xs xs ≡ true
 unfolding same
 same_refl [] = refl
-same_refl (x ∷ xs) = ap₂ (λ (a b : Bool). a && b) (eq-eqb x x refl) (same_refl xs)
+same_refl (x ∷ xs) = grind (arith, nat_tests, same_refl xs)
 
 -- and lists that are the same are equal
 pub same_true : (xs ys : List ℕ) → same xs ys ≡ true → xs ≡ ys
 unfolding same
 same_true [] [] e = refl
-same_true [] (y ∷ ys) e = absurd (let z : ◌≡◌ {A = ℕ} 0 1 = cc in omega arith)
-same_true (x ∷ xs) [] e = absurd (let z : ◌≡◌ {A = ℕ} 0 1 = cc in omega arith)
-same_true (x ∷ xs) (y ∷ ys) e = go (eqb x y) refl e (same_true xs ys)
-  where
-    go : (t : Bool) → eqb x y ≡ t → t && same xs ys ≡ true → (same xs ys ≡ true → xs ≡ ys) → x ∷ xs ≡ y ∷ ys
-    go true q f ih = ap₂ (λ (z : ℕ) (zs : List ℕ). z ∷ zs) (eqb-true x y q) (ih f)
-    go false q f ih = absurd (let z : ◌≡◌ {A = ℕ} 0 1 = cc in omega arith)
+same_true [] (y ∷ ys) e = cc
+same_true (x ∷ xs) [] e = cc
+same_true (x ∷ xs) (y ∷ ys) e = grind (arith, nat_tests, same_true xs ys)
 
 -- ---- reading
 

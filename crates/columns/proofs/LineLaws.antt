@@ -7,8 +7,9 @@ use native.Mathlib.Nat.{mul-zero, mul-suc, le_of_suc-le-suc, not-suc-le-zero}
 use native.Mathlib.Omega.{arith}
 use borrow.Author.Tests.{eqb-true, eqb-false}
 use lib.Dec.{eqb}
-use lib.ListN.{length, get_or, take, drop, length-append, take-append-drop, drop_of_length-le}
+use lib.ListN.{length, get_or, take, drop, take-append-drop, drop_of_length-le}
 use lib.Seq.{take_at, drop_at, drop-drop, drop-cons, get_or-drop}
+use Rattle.std.proofs.lemmas.Grind.{common_steps}
 use Rattle.vector.specs.Vector.{tabulate}
 use Rattle.vector.proofs.Laws.{length_tabulate, tabulate_by, tabulate_ext}
 use Rattle.columns.specs.Columns.{field, fields, line}
@@ -17,34 +18,30 @@ use Rattle.columns.proofs.ColumnLaws.{length_field, field_spelled, same_refl, sa
 
 -- a test that can't hold does not
 pub refuted : (t : Bool) → (t ≡ true → ⊥) → t ≡ false
-refuted true h = absurd (h refl)
-refuted false h = refl
+refuted t h = grind (arith, h)
 
 -- ---- numbers in w columns each, one after the other, and something after them
 module _ (w : ℕ) where
   -- part 0 is the start
   part_zero : (bytes : List ℕ) → part w 0 bytes ≡ take w bytes
   unfolding part
-  part_zero bytes = ap (λ (j : ℕ). take w (drop j bytes)) (mul-zero w)
+  part_zero bytes = simp mul-zero
 
   -- the parts after part 0
   part_suc : (i : ℕ) (bytes : List ℕ) → part w (suc i) bytes ≡ part w i (drop w bytes)
   unfolding part
-  part_suc i bytes =
-      ap (λ (j : ℕ). take w (drop j bytes)) (let e = mul-suc w i in let f : w * suc i ≡ w + w * i = omega arith in f)
-      ∙ ap (take w) (sym (drop-drop (w * i) w bytes))
+  part_suc i bytes = grind (arith, common_steps, mul-suc w i)
 
   -- part i as it is lent: from where it starts to where the next one does
   pub lent_part : (i : ℕ) (bytes : List ℕ) → take (w * i + w - w * i) (drop (w * i) bytes) ≡ part w i bytes
   unfolding part
-  lent_part i bytes = ap (λ (j : ℕ). take j (drop (w * i) bytes)) (let e : w * i + w - w * i ≡ w = omega arith in e)
+  lent_part i bytes = grind arith
 
   -- how long they are
   length_fields : (vs : List ℕ) → length (fields w vs) ≡ w * length vs
   unfolding fields
   length_fields [] = sym (mul-zero w)
-  length_fields (v ∷ vs) =
-      length-append (field w v) (fields w vs) ∙ (let a = length_field w v in let b = length_fields vs in let c = mul-suc w (length vs) in omega arith)
+  length_fields (v ∷ vs) = grind (arith, common_steps, length_field w v, length_fields vs, mul-suc w (length vs))
 
   -- part i is number i
   parts_of : (k : ℕ) (f : ℕ → ℕ) (tail : List ℕ) (i : ℕ) → i < k → part w i (fields w (tabulate k f) ++ tail) ≡ field w (f i)
@@ -98,8 +95,7 @@ module _ (w k : ℕ) (bytes : List ℕ) where
 
     -- its length
     pub line_long : length bytes ≡ w * k + 1
-    line_long =
-        ap length apart ∙ length-append written (10 ∷ []) ∙ (let a = length_fields w (tabulate k at) in let b = length_tabulate k at in let c = ap (λ (j : ℕ). w * j) b in omega arith)
+    line_long = grind (arith, common_steps, apart, length_fields w (tabulate k at), length_tabulate k at)
 
     -- each part of w bytes is a number in w columns
     pub line_field : (i : ℕ) → i < k → is_field w (part w i bytes) ≡ true

@@ -6,11 +6,12 @@ use mathlib.Core.List.{List, [], ◌∷◌, ◌++◌, append-nil, append_assoc}
 use Prim.Native.Nat.{ℕ, zero, suc, ◌+◌, ◌*◌, ◌^◌, ◌<◌}
 use native.Mathlib.Nat.{mul-zero}
 use native.Mathlib.Omega.{arith}
-use lib.ListN.{length, get_or, take, drop, set, length-append, drop_of_length-le}
-use lib.Seq.{take_at, set_split}
+use lib.ListN.{length, get_or, take, drop, set, drop_of_length-le}
+use lib.Seq.{set_split}
 use Rattle.vector.specs.Vector.{tabulate, joined}
 use Rattle.vector.proofs.Laws.{length_tabulate, get_d_tabulate, length_joined, joined_part, joined_ext}
 use Rattle.vector.proofs.JoinedLaws.{joined_each, joined_parts}
+use Rattle.std.proofs.lemmas.Grind.{common_steps}
 use Rattle.columns.specs.Columns.{field, fields, line, lines}
 use Rattle.columns.specs.Reading.{spelled, part, numbers, is_line}
 use Rattle.columns.proofs.ColumnLaws.{length_field, field_spelled}
@@ -37,14 +38,11 @@ module _ (w : ℕ) where
 
     -- how long the line is
     one_long : length (line w (v ∷ [])) ≡ w + 1
-    one_long =
-        ap length one_number ∙ length-append (field w v) (10 ∷ []) ∙ ap (λ (k : ℕ). k + 1) (length_field w v)
+    one_long = grind (arith, common_steps, one_number, length_field w v)
 
     -- the number that its columns spell
     pub one_spelled : v < 10 ^ w → spelled (take w (line w (v ∷ []))) ≡ v
-    one_spelled small =
-        ap (λ (xs : List ℕ). spelled (take w xs)) one_number
-        ∙ ap spelled (take_at (field w v) (10 ∷ []) w (length_field w v)) ∙ field_spelled w v small
+    one_spelled small = grind (arith, common_steps, one_number, length_field w v, field_spelled w v small)
 
     -- it is accepted as a line of one number
     pub one_accepted : v < 10 ^ w → is_line w 1 (line w (v ∷ [])) ≡ true

@@ -1,19 +1,17 @@
--- Writing a number column by column, from the last column to the first: what is left to write, and what is already there, make up the whole.
-use mathlib.Core.Path.{◌≡◌, refl, sym, ap, ap₂, ◌∙◌}
+-- Writing a number column by column, from the last column to the first: what is left to write, and what is already
+-- there, make up the whole.
+use mathlib.Core.Path.{◌≡◌, refl}
 use mathlib.Core.List.{List, [], ◌∷◌, ◌++◌}
-use Prim.Native.Nat.{ℕ, zero, suc, ◌-◌, ◌/◌, ◌≤◌, ◌<◌}
+use Prim.Native.Nat.{ℕ, zero, suc, ◌+◌, ◌-◌, ◌/◌, ◌≤◌, ◌<◌}
 use native.Mathlib.Nat.{not-suc-le-zero}
 use native.Mathlib.Omega.{arith}
-use lib.ListN.{length, drop, set, length-set, drop_of_length-le}
-use lib.Seq.{drop-cons, drop-set-lt, get_or-set_same, append_snoc}
+use lib.ListN.{length, drop, set}
+use Rattle.std.proofs.lemmas.Grind.{common_steps}
 use Rattle.columns.specs.Columns.{digit, column, before, field}
 
 -- the bytes from the one just stored on
 stored : (out : List ℕ) (j x : ℕ) → j < length out → drop j (set out j x) ≡ x ∷ drop (suc j) out
-stored out j x l =
-    let long = length-set out j x in
-    drop-cons (set out j x) j 0 (omega arith)
-    ∙ ap₂ (λ (y : ℕ) (ys : List ℕ). y ∷ ys) (get_or-set_same out j x 0 l) (drop-set-lt (suc j) out j x (omega arith))
+stored out j x l = grind (arith, common_steps)
 
 -- no column
 pub no_column : (v : ℕ) (out : List ℕ) → length out ≡ 0 → out ≡ field (length out) v
@@ -22,28 +20,26 @@ no_column v [] e = refl
 no_column v (x ∷ xs) e = absurd (omega arith)
 
 -- the last column
-pub last_column : (v : ℕ) (out : List ℕ) → 0 < length out → let j = length out - 1 in
-    before j (v / 10) ++ drop j (set out j (digit v)) ≡ field (length out) v
+pub last_column : (v : ℕ) (out : List ℕ) (last x : ℕ) → length out ≡ last + 1 → x ≡ digit v
+    → before last (v / 10) ++ drop last (set out last x) ≡ field (length out) v
 unfolding field
-last_column v [] l = absurd (not-suc-le-zero l)
-last_column v (x ∷ xs) l =
-    let e : suc (length xs) - 1 ≡ length xs = omega arith in
-    ap (λ (j : ℕ). before j (v / 10) ++ drop j (set (x ∷ xs) j (digit v))) e
-    ∙ ap (λ (ys : List ℕ). before (length xs) (v / 10) ++ ys)
-    (stored (x ∷ xs) (length xs) (digit v) (omega arith) ∙ ap (λ (ys : List ℕ). digit v ∷ ys) (drop_of_length-le (x ∷ xs) {i = suc (length xs)} (omega arith)))
+last_column v [] last x long e = absurd (omega arith)
+last_column v (y ∷ ys) last x long e = grind (arith, common_steps)
 
 -- one column more
-pub more_columns : (k left : ℕ) (out : List ℕ) → 0 < k → k ≤ length out
-    → before (k - 1) (left / 10) ++ drop (k - 1) (set out (k - 1) (column left)) ≡ before k left ++ drop k out
+pub more_columns : (k left : ℕ) (out : List ℕ) (x : ℕ) → 0 < k → k ≤ length out → x ≡ column left
+    → before (k - 1) (left / 10) ++ drop (k - 1) (set out (k - 1) x) ≡ before k left ++ drop k out
 unfolding before
-more_columns zero left out l m = absurd (not-suc-le-zero l)
-more_columns (suc j) left out l m =
-    let e : suc j - 1 ≡ j = omega arith in
-    ap (λ (i : ℕ). before i (left / 10) ++ drop i (set out i (column left))) e
-    ∙ ap (λ (ys : List ℕ). before j (left / 10) ++ ys) (stored out j (column left) (omega arith))
-    ∙ sym (append_snoc (before j (left / 10)) (column left) (drop (suc j) out))
+more_columns zero left out x l m e = absurd (not-suc-le-zero l)
+more_columns (suc j) left out x l m e =
+    let k : suc j - 1 ≡ j = omega arith in
+    let s = stored out j x (omega arith) in
+    grind (arith, common_steps)
 
 -- no column is left
-pub nothing_left : (k left : ℕ) (out : List ℕ) → k ≡ 0 → out ≡ before k left ++ drop k out
+pub nothing_left : (left : ℕ) (out : List ℕ) → before 0 left ++ drop 0 out ≡ out
 unfolding before
-nothing_left k left out e = ap (λ (j : ℕ). before j left ++ drop j out) (sym e)
+nothing_left left out = refl
+
+-- where writing starts and ends
+pub ruleset ends = (no_column, last_column, nothing_left)

@@ -1,22 +1,21 @@
 // Reading lines.
-ghost use Rattle.std.specs.Prelude.{◌≤◌, length};
+use std::io::BufRead;
 
-use std::io::Read;
+// The next byte of a line, none where a line feed or the end of the input ends it.
+fn line_byte<F: BufRead>(input: &mut F) -> Option<u8> {
+    let byte = *input.fill_buf().ok()?.first()?;
+    input.consume(1);
+    Some(byte).filter(|byte| *byte != b'\n')
+}
 
-// Reads the next line of the input, without its line feed, and returns how many bytes it has: 0 where the input ends.
-// A line that is longer than the buffer is read as two.
-pub(crate) fn read_line<F: Read>(input: &mut F, line: &mut [u8]) -> usize
-    ensures { result ≤ length line.new }
-{
-    let mut byte = [0u8; 1];
-    let mut end: usize = 0;
-    while end < line.len() {
-        let got = input.read(&mut byte).unwrap_or(0);
-        if got == 0 || byte[0] == b'\n' {
-            break;
+// Reads the next line of the input, without its line feed: empty where the input ends. A line that is longer than the
+// buffer is read as two.
+pub(crate) fn read_line<'a, F: BufRead>(input: &mut F, buffer: &'a mut [u8]) -> &'a [u8] {
+    for (end, place) in buffer.iter_mut().enumerate() {
+        match line_byte(input) {
+            Some(byte) => *place = byte,
+            None => return &buffer[..end],
         }
-        line[end] = byte[0];
-        end += 1;
     }
-    end
+    buffer
 }

@@ -6,7 +6,8 @@
 mod input;
 
 use crate::input::read_line;
-use std::io::Read;
+use std::io::BufRead;
+use std::ops::ControlFlow;
 use std::rt::Files;
 
 // The bytes that a line of the input may have.
@@ -15,31 +16,25 @@ const LONGEST: usize = 64;
 // The most pairs that a run makes.
 const MOST_PAIRS: usize = 1000;
 
-// Runs the program on the next pair. Returns false where there is none.
-fn run_next<R: Files + Print, F: Read>(rt: &R, input: &mut F) -> bool {
+// Runs the program on the next pair, and breaks off where there is none.
+fn run_next<R: Files + Print, F: BufRead>(rt: &R, input: &mut F) -> ControlFlow<()> {
     let mut name = [0u8; LONGEST];
     let mut code = [0u8; LONGEST];
     let mut frame = [0u8; LONGEST];
-    let name_end = read_line(input, &mut name);
-    let code_end = read_line(input, &mut code);
-    let frame_end = read_line(input, &mut frame);
-    if name_end == 0 {
-        return false;
+    let name = read_line(input, &mut name);
+    let code = read_line(input, &mut code);
+    let frame = read_line(input, &mut frame);
+    if name.is_empty() {
+        return ControlFlow::Break(());
     }
-    let _ = rt.write_all(&name[..name_end]);
+    let _ = rt.write_all(name);
     let _ = rt.write_all(b"\n");
-    files::run(rt, &code[..code_end], &frame[..frame_end]);
-    true
+    files::run(rt, code, frame);
+    ControlFlow::Continue(())
 }
 
 // Runs the program on all pairs.
 fn main(rt: HostRuntime) {
     let mut input = rt.reader();
-    let mut i: usize = 0;
-    while i < MOST_PAIRS {
-        if !run_next(&rt, &mut input) {
-            break;
-        }
-        i += 1;
-    }
+    let _ = (0..MOST_PAIRS).try_for_each(|_| run_next(&rt, &mut input));
 }

@@ -5,7 +5,7 @@ ghost use Rattle.std.specs.Prelude.{◌≡◌};
 pub(crate) fn print_refusal<R: Print>(rt: &R, number: u8) -> u8
     ensures { result ≡ number }
 {
-    let line = listing::number_line(number as u32);
+    let line = listing::number_line(u32::from(number));
     let _ = rt.write_all(&line);
     number
 }

@@ -7,25 +7,20 @@ use std::{fs, str};
 
 // Opens a file by its name, to read it; none where it can't be opened.
 pub(crate) fn open_some<R: Files>(rt: &R, name: &[u8]) -> Option<R::File> {
-    match str::from_utf8(name) {
-        Ok(path) => fs::open(rt, path).ok(),
-        Err(_) => None,
-    }
+    let path = str::from_utf8(name).ok()?;
+    fs::open(rt, path).ok()
 }
 
 // Reads until buf is full, the file ends or a read fails, and returns how many bytes were read.
 fn read_full<F: Read>(file: &mut F, buf: &mut [u8]) -> usize
     ensures { result ≤ length buf.new }
 {
-    let mut done: usize = 0;
-    while done < buf.len() {
-        let got = file.read(&mut buf[done..]).unwrap_or(0);
-        if got == 0 {
-            break;
-        }
-        done += got;
+    let size = buf.len();
+    let mut rest = buf;
+    while let Ok(got @ 1..) = file.read(rest) {
+        rest = &mut rest[got..];
     }
-    done
+    size - rest.len()
 }
 
 // The same of a file that may not have been opened: then it counts as empty.

@@ -1,59 +1,9 @@
-// The calls that decode: the decoder, the round trip and the program's listing. Each function reads the record of one
-// call from after the code on, makes the call and prints the line. It returns whether the record kept its form; if not,
-// no call is made.
-use crate::input::{ended, next_number, next_u32};
-use crate::print::{print_bytes, print_count, print_number, print_samples, print_words};
-use crate::slices::{LONGEST, PLACES, take_bytes, take_samples, take_words};
-
-// `decoder::decode`.
-pub(crate) fn run_decode(
-    n: usize,
-    map: &[u8],
-    coefs: &[u8],
-    frame: &mut [u16],
-    symbols: &mut [u8],
-) -> bool {
-    let mut work = [0u16; LONGEST];
-    let mut report = [0u16; LONGEST];
-    let mut totals = [0u16; PLACES];
-    let qc = next_u32();
-    let qm = next_u32();
-    let candidates = next_u32();
-    let frame = take_words(frame);
-    let work = take_words(&mut work);
-    let symbols = take_bytes(symbols);
-    let report = take_words(&mut report);
-    let totals = take_words(&mut totals);
-    if !ended() {
-        return false;
-    }
-    print_count(decoder::decode(
-        n, map, coefs, qc, qm, candidates, frame, work, symbols, report, totals,
-    ));
-    print_words(work);
-    print_bytes(symbols);
-    print_words(report);
-    print_words(totals);
-    true
-}
-
-// `program_listing::decode_listing`.
-pub(crate) fn run_listing(
-    n: usize,
-    map: &[u8],
-    coefs: &[u8],
-    frame: &mut [u16],
-    text: &mut [u8],
-) -> bool {
-    let frame = take_words(frame);
-    let output = take_bytes(text);
-    if !ended() {
-        return false;
-    }
-    print_number(program_listing::decode_listing(n, map, coefs, frame, output) as u64);
-    print_bytes(output);
-    true
-}
+// The calls that decode: the decoder, the round trip and the program's listing.
+use crate::entries::checksum;
+use crate::input::{BrokenRecord, Input};
+use crate::run::{Answer, Run, print_line};
+use crate::slices::{Code, CodeBuffers, LONGEST, PLACES};
+use std::io::BufRead;
 
 // What a round trip is given beside the code and the message.
 #[derive(Clone, Copy)]
@@ -67,45 +17,54 @@ struct Link {
     candidates: u32,
 }
 
-// Reads these numbers.
-fn next_link() -> Link {
-    let base = next_number();
-    let amplitude = next_u32();
-    let top = next_u32();
-    let bottom = next_u32();
-    let qc = next_u32();
-    let qm = next_u32();
-    let candidates = next_u32();
-    Link {
-        base,
-        amplitude,
-        top,
-        bottom,
-        qc,
-        qm,
-        candidates,
+impl Link {
+    // Reads these numbers.
+    fn read<F: BufRead>(input: &mut Input<F>) -> Result<Link, BrokenRecord> {
+        Ok(Link {
+            base: input.number()?,
+            amplitude: input.number()?,
+            top: input.number()?,
+            bottom: input.number()?,
+            qc: input.number()?,
+            qm: input.number()?,
+            candidates: input.number()?,
+        })
     }
 }
 
-// `loopback::round_trip`, and its line.
-fn trip_line(
-    n: usize,
-    map: &[u8],
-    coefs: &[u8],
-    message: &[u8],
-    link: Link,
-    samples: &mut [i8],
-    frame: &mut [u16],
-    work: &mut [u16],
-    symbols: &mut [u8],
-    report: &mut [u16],
-    totals: &mut [u16],
-    decoded: &mut [u8],
-) {
-    print_count(loopback::round_trip(
-        n,
-        map,
-        coefs,
+// What a round trip is lent to be written.
+#[derive(Drop)]
+struct Lent<'a> {
+    samples: &'a mut [i8],
+    frame: &'a mut [u16],
+    work: &'a mut [u16],
+    symbols: &'a mut [u8],
+    report: &'a mut [u16],
+    totals: &'a mut [u16],
+    decoded: &'a mut [u8],
+}
+
+impl Lent<'_> {
+    // The checksums of these slices.
+    fn checksums(&self) -> [u64; 7] {
+        [
+            checksum(self.samples),
+            checksum(self.frame),
+            checksum(self.work),
+            checksum(self.symbols),
+            checksum(self.report),
+            checksum(self.totals),
+            checksum(self.decoded),
+        ]
+    }
+}
+
+// `loopback::round_trip`.
+fn trip(code: Code<'_>, message: &[u8], link: Link, lent: &mut Lent<'_>) -> Answer {
+    Answer::from(loopback::round_trip(
+        code.n,
+        code.map,
+        code.coefs,
         message,
         link.base,
         link.amplitude,
@@ -114,51 +73,80 @@ fn trip_line(
         link.qc,
         link.qm,
         link.candidates,
-        samples,
-        frame,
-        work,
-        symbols,
-        report,
-        totals,
-        decoded,
-    ));
-    print_samples(samples);
-    print_words(frame);
-    print_words(work);
-    print_bytes(symbols);
-    print_words(report);
-    print_words(totals);
-    print_bytes(decoded);
+        lent.samples,
+        lent.frame,
+        lent.work,
+        lent.symbols,
+        lent.report,
+        lent.totals,
+        lent.decoded,
+    ))
 }
 
-// A record of it.
-pub(crate) fn run_round_trip(
-    n: usize,
-    map: &[u8],
-    coefs: &[u8],
-    samples: &mut [i8],
-    frame: &mut [u16],
-    symbols: &mut [u8],
-    text: &mut [u8],
-) -> bool {
-    let mut message = [0u8; PLACES];
-    let mut work = [0u16; LONGEST];
-    let mut report = [0u16; LONGEST];
-    let mut totals = [0u16; PLACES];
-    let message = take_bytes(&mut message);
-    let link = next_link();
-    let samples = take_samples(samples);
-    let frame = take_words(frame);
-    let work = take_words(&mut work);
-    let symbols = take_bytes(symbols);
-    let report = take_words(&mut report);
-    let totals = take_words(&mut totals);
-    let decoded = take_bytes(text);
-    if !ended() {
-        return false;
+impl<R: Print, F: BufRead> Run<'_, R, F> {
+    // `decoder::decode`.
+    pub(crate) fn decode(&mut self) -> Result<(), BrokenRecord> {
+        let mut code = CodeBuffers::new();
+        let mut work = [0u16; LONGEST];
+        let mut report = [0u16; LONGEST];
+        let mut totals = [0u16; PLACES];
+        let code = self.input.code(&mut code)?;
+        let qc = self.input.number()?;
+        let qm = self.input.number()?;
+        let candidates = self.input.number()?;
+        let frame = self.input.slice(&mut self.kept.frame)?;
+        let work = self.input.slice(&mut work)?;
+        let symbols = self.input.slice(&mut self.kept.symbols)?;
+        let report = self.input.slice(&mut report)?;
+        let totals = self.input.slice(&mut totals)?;
+        self.input.end_record()?;
+        let answer = decoder::decode(
+            code.n, code.map, code.coefs, qc, qm, candidates, frame, work, symbols, report, totals,
+        );
+        let sums = [
+            checksum(work),
+            checksum(symbols),
+            checksum(report),
+            checksum(totals),
+        ];
+        print_line(self.rt, Answer::from(answer), &sums);
+        Ok(())
     }
-    trip_line(
-        n, map, coefs, message, link, samples, frame, work, symbols, report, totals, decoded,
-    );
-    true
+
+    // `program_listing::decode_listing`.
+    pub(crate) fn list(&mut self) -> Result<(), BrokenRecord> {
+        let mut code = CodeBuffers::new();
+        let code = self.input.code(&mut code)?;
+        let frame = self.input.slice(&mut self.kept.frame)?;
+        let output = self.input.slice(&mut self.kept.text)?;
+        self.input.end_record()?;
+        let answer = program_listing::decode_listing(code.n, code.map, code.coefs, frame, output);
+        print_line(self.rt, Answer::from(answer), &[checksum(output)]);
+        Ok(())
+    }
+
+    // A round trip.
+    pub(crate) fn round_trip(&mut self) -> Result<(), BrokenRecord> {
+        let mut code = CodeBuffers::new();
+        let mut message = [0u8; PLACES];
+        let mut work = [0u16; LONGEST];
+        let mut report = [0u16; LONGEST];
+        let mut totals = [0u16; PLACES];
+        let code = self.input.code(&mut code)?;
+        let message = self.input.slice(&mut message)?;
+        let link = Link::read(&mut self.input)?;
+        let mut lent = Lent {
+            samples: self.input.slice(&mut self.kept.samples)?,
+            frame: self.input.slice(&mut self.kept.frame)?,
+            work: self.input.slice(&mut work)?,
+            symbols: self.input.slice(&mut self.kept.symbols)?,
+            report: self.input.slice(&mut report)?,
+            totals: self.input.slice(&mut totals)?,
+            decoded: self.input.slice(&mut self.kept.text)?,
+        };
+        self.input.end_record()?;
+        let answer = trip(code, message, link, &mut lent);
+        print_line(self.rt, answer, &lent.checksums());
+        Ok(())
+    }
 }

@@ -1,38 +1,28 @@
-// The product of the field. The function reads the record of its calls, makes them and prints the line. It returns
-// whether the record kept its form; if not, no call is made.
-use crate::input::{ended, next_u8};
-use crate::print::{print_bytes, print_number};
-use crate::sums::byte_sum;
+// The product of the field.
+use crate::entries::checksum;
+use crate::input::BrokenRecord;
+use crate::run::{Run, print_line};
+use std::io::BufRead;
 
-// The product of two bytes, worked out or read from the table.
-fn product_of(x: u8, y: u8, worked_out: bool) -> u8 {
-    if worked_out {
-        gf64::worked_out_product(x, y)
-    } else {
-        gf64::product(x, y)
+// The products of x with all 256 bytes, by this product.
+fn products_of<P: Fn(u8, u8) -> u8>(x: u8, product: P) -> [u8; 256]
+    requires { P.IsAlwaysCallable product }
+{
+    let mut products = [0; 256];
+    for (y, entry) in (0..=u8::MAX).zip(products.iter_mut()) {
+        *entry = product(x, y);
     }
+    products
 }
 
-// The products of x with all 256 bytes, likewise.
-fn products_of(x: u8, worked_out: bool) -> [u8; 256] {
-    let mut r = [0u8; 256];
-    let mut i: usize = 0;
-    while i < 256 {
-        r[i] = product_of(x, i as u8, worked_out);
-        i += 1;
+impl<R: Print, F: BufRead> Run<'_, R, F> {
+    // `gf64::product` and `gf64::worked_out_product`, of one byte with all 256: the checksums of both.
+    pub(crate) fn products(&mut self) -> Result<(), BrokenRecord> {
+        let x = self.input.number()?;
+        self.input.end_record()?;
+        let read = products_of(x, |x, y| gf64::product(x, y));
+        let worked_out = products_of(x, |x, y| gf64::worked_out_product(x, y));
+        print_line(self.rt, checksum(&read), &[checksum(&worked_out)]);
+        Ok(())
     }
-    r
-}
-
-// `gf64::product` and `gf64::worked_out_product`, of one byte with all 256: the checksums of both.
-pub(crate) fn run_products() -> bool {
-    let x = next_u8();
-    if !ended() {
-        return false;
-    }
-    let read = products_of(x, false);
-    let worked_out = products_of(x, true);
-    print_number(byte_sum(&read));
-    print_bytes(&worked_out);
-    true
 }

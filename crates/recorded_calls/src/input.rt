@@ -1,162 +1,138 @@
-// The input, token by token. A token is bytes other than a blank and a line feed, and one of these two ends it. Where
-// the form of a record is broken the rest of the input is dropped: so the record does not end, and is found broken.
-ghost use Rattle.std.specs.Prelude.{◌≡◌, ◌≤◌};
+// The input, token by token. A token is bytes other than a blank and a line feed, and one of these two ends it.
+ghost use Rattle.std.specs.Prelude.{◌≡◌, ◌≤◌, IfOk};
 
-// Standard input.
-const STDIN: i32 = 0;
+use std::io::BufRead;
+use std::num::TryFromIntError;
 
 // The most digits that a number has.
 const MOST_DIGITS: usize = 20;
 
-// How often so many bytes of the input are dropped at the most: more than any input has.
-const MOST_BLOCKS: usize = 1000;
+// The error where a record breaks its form.
+#[derive(Clone, Copy, Debug, PartialEq, Eq)]
+pub(crate) struct BrokenRecord;
 
-// The next byte of the input, 0 where it has ended: no token has that byte.
-pub(crate) fn next_byte() -> u8 {
-    let mut byte = [0u8; 1];
-    io::read_full(STDIN, &mut byte);
-    byte[0]
-}
-
-// Drops the rest of the input.
-pub(crate) fn drop_rest() {
-    let mut block = [0u8; 65536];
-    let mut i: usize = 0;
-    while i < MOST_BLOCKS {
-        if io::read_full(STDIN, &mut block) == 0 {
-            break;
-        }
-        i += 1;
+impl From<TryFromIntError> for BrokenRecord {
+    // A number that does not fit its type breaks the form.
+    fn from(_error: TryFromIntError) -> BrokenRecord {
+        BrokenRecord
     }
 }
 
-// Drops the rest of the input, and gives 0.
-fn no_number() -> u64
-    ensures { result ≡ 0 }
-{
-    drop_rest();
-    0
-}
-
-// Whether a byte ends a token: a blank or a line feed.
-fn is_separator(byte: u8) -> bool {
-    byte == b' ' || byte == b'\n'
-}
-
-// Reads the byte that ends a token.
-pub(crate) fn end_token() {
-    if !is_separator(next_byte()) {
-        drop_rest();
-    }
-}
-
-// The next token, which has one byte.
-pub(crate) fn next_letter() -> u8 {
-    let letter = next_byte();
-    end_token();
-    letter
-}
-
-// Whether the record ends here, with the letter '.'.
-pub(crate) fn ended() -> bool {
-    next_letter() == b'.'
-}
-
-// The number that a digit stands for, decimal or hexadecimal; 16 for any other byte.
-fn digit_value(byte: u8) -> u64
-    ensures { result ≤ 16 }
-{
+// The value of a digit, decimal or hexadecimal.
+fn digit_value(byte: u8) -> Option<u8> {
     match byte {
-        b'0'..=b'9' => (byte - 48) as u64,
-        b'a'..=b'f' => (byte - 87) as u64,
-        _ => 16,
+        b'0'..=b'9' => Some(byte - b'0'),
+        b'a'..=b'f' => Some(byte - b'a' + 10),
+        _ => None,
     }
 }
 
-// A number with one more decimal digit.
-fn with_decimal(value: u64, byte: u8) -> u64 {
-    let digit = digit_value(byte);
-    if 10 <= digit {
-        return no_number();
-    }
-    if 1844674407370955161 < value {
-        return no_number();
-    }
-    let tens = value * 10;
-    if 18446744073709551615 - tens < digit {
-        return no_number();
-    }
-    tens + digit
+// A number with one more digit of this base.
+fn with_digit(value: u64, base: u8, byte: u8) -> Result<u64, BrokenRecord> {
+    let digit = digit_value(byte)
+        .filter(|digit| *digit < base)
+        .ok_or(BrokenRecord)?;
+    value
+        .checked_mul(u64::from(base))
+        .and_then(|rest| rest.checked_add(u64::from(digit)))
+        .ok_or(BrokenRecord)
 }
 
-// The same with a hexadecimal one.
-fn with_hexadecimal(value: u64, byte: u8) -> u64 {
-    let digit = digit_value(byte);
-    if 16 <= digit {
-        return no_number();
-    }
-    if 1152921504606846976 <= value {
-        return no_number();
-    }
-    value * 16 + digit
+// The input, by the reader of its bytes.
+#[derive(Drop)]
+pub(crate) struct Input<F> {
+    reader: F,
 }
 
-// The next token, a decimal number.
-pub(crate) fn next_number() -> u64 {
-    let mut value: u64 = 0;
-    let mut digits: usize = 0;
-    while digits <= MOST_DIGITS {
-        let byte = next_byte();
-        if is_separator(byte) {
-            break;
+impl<F: BufRead> Input<F> {
+    // The input of a reader.
+    pub(crate) fn new(reader: F) -> Input<F> {
+        Input { reader }
+    }
+
+    // The next byte of the input, none where it has ended.
+    pub(crate) fn next_byte(&mut self) -> Option<u8> {
+        let byte = *self.reader.fill_buf().ok()?.first()?;
+        self.reader.consume(1);
+        Some(byte)
+    }
+
+    // The next byte of a record, which does not end before it.
+    fn byte(&mut self) -> Result<u8, BrokenRecord> {
+        self.next_byte().ok_or(BrokenRecord)
+    }
+
+    // The next byte of a token, none where a blank or a line feed ends it.
+    fn token_byte(&mut self) -> Result<Option<u8>, BrokenRecord> {
+        let byte = self.byte()?;
+        Ok(Some(byte).filter(|byte| !matches!(*byte, b' ' | b'\n')))
+    }
+
+    // Reads the byte that ends a token.
+    pub(crate) fn end_token(&mut self) -> Result<(), BrokenRecord> {
+        match self.token_byte()? {
+            None => Ok(()),
+            Some(_) => Err(BrokenRecord),
         }
-        value = with_decimal(value, byte);
-        digits += 1;
     }
-    if digits == 0 || digits > MOST_DIGITS {
-        drop_rest();
+
+    // The next token, which has one byte.
+    pub(crate) fn letter(&mut self) -> Result<u8, BrokenRecord> {
+        let letter = self.byte()?;
+        self.end_token()?;
+        Ok(letter)
     }
-    value
-}
 
-// The next `width` bytes, a hexadecimal number.
-pub(crate) fn next_digits(width: u64) -> u64 {
-    let mut value: u64 = 0;
-    let mut i: u64 = 0;
-    while i < width {
-        value = with_hexadecimal(value, next_byte());
-        i += 1;
+    // Reads the next byte, which is this one.
+    pub(crate) fn expect_byte(&mut self, wanted: u8) -> Result<(), BrokenRecord> {
+        if self.byte()? == wanted {
+            Ok(())
+        } else {
+            Err(BrokenRecord)
+        }
     }
-    value
-}
 
-// A number that is to be at most `most`.
-pub(crate) fn within(x: u64, most: u64) -> u64
-    ensures { result ≤ most }
-{
-    if most < x {
-        return no_number();
+    // Reads the '.' that ends a record. `main` reads what follows, since a record with its '.' is whole.
+    pub(crate) fn end_record(&mut self) -> Result<(), BrokenRecord> {
+        self.expect_byte(b'.')
     }
-    x
-}
 
-// The next token, a number from `low` to `high`.
-pub(crate) fn next_between(low: u64, high: u64) -> u64
-    ensures { result ≤ high }
-{
-    let x = within(next_number(), high);
-    if x < low {
-        return no_number();
+    // The next token, a decimal number.
+    fn decimal(&mut self) -> Result<u64, BrokenRecord> {
+        let mut value = with_digit(0, 10, self.byte()?)?;
+        for _ in 0..MOST_DIGITS {
+            match self.token_byte()? {
+                None => return Ok(value),
+                Some(byte) => value = with_digit(value, 10, byte)?,
+            }
+        }
+        Err(BrokenRecord)
     }
-    x
-}
 
-// The next token, a number of 32 bits.
-pub(crate) fn next_u32() -> u32 {
-    next_between(0, 4294967295) as u32
-}
+    // The next token, a number that fits the type.
+    pub(crate) fn number<T: TryFrom<u64, Error = TryFromIntError>>(
+        &mut self,
+    ) -> Result<T, BrokenRecord> {
+        Ok(T::try_from(self.decimal()?)?)
+    }
 
-// The next token, a number of 8 bits.
-pub(crate) fn next_u8() -> u8 {
-    next_between(0, 255) as u8
+    // The next token, a number from `low` to `high`.
+    pub(crate) fn number_within(&mut self, low: u64, high: u64) -> Result<u64, BrokenRecord>
+        ensures { IfOk result (λ x. (low ≤ x) × (x ≤ high)) }
+    {
+        let x = self.decimal()?;
+        if x < low || high < x {
+            return Err(BrokenRecord);
+        }
+        Ok(x)
+    }
+
+    // The next bytes, a hexadecimal number of so many digits.
+    pub(crate) fn hexadecimal(&mut self, digits: u64) -> Result<u64, BrokenRecord> {
+        let mut value = 0;
+        for _ in 0..digits {
+            value = with_digit(value, 16, self.byte()?)?;
+        }
+        Ok(value)
+    }
 }

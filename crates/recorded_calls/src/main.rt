@@ -7,110 +7,75 @@
 
 mod channel;
 mod decoding;
+mod draws;
+mod entries;
 mod field;
 mod input;
-mod print;
 mod reading;
+mod run;
 mod sending;
 mod shifts;
 mod slices;
-mod sums;
 mod values;
 mod writing;
 
-use crate::decoding::{run_decode, run_listing, run_round_trip};
-use crate::field::run_products;
-use crate::input::{end_token, next_byte, next_number};
-use crate::print::{end_line, print_broken};
-use crate::reading::{
-    run_end, run_feed, run_frame_line, run_number_line, run_place_line, run_sheet,
-};
-use crate::sending::{run_channel, run_demap, run_encode, run_part, run_spread};
-use crate::shifts::run_base;
-use crate::slices::{KERNELS, LONGEST, NUMBERS, PLACES, TEXT, take_bytes};
-use crate::writing::{run_write_line, run_write_sheet};
+use crate::input::{BrokenRecord, Input};
+use crate::run::Run;
+use crate::slices::Buffers;
+use std::io::BufRead;
 
 // The most records that a run makes.
 const MOST_RECORDS: usize = 1000000;
 
-// Runs the record of a call that takes a code: n, the map and the coefficients come first.
-fn run_coded(
-    letter: u8,
-    symbols: &mut [u8],
-    samples: &mut [i8],
-    frame: &mut [u16],
-    text: &mut [u8],
-) -> bool {
-    let mut map = [0u8; PLACES];
-    let mut coefs = [0u8; KERNELS];
-    let n = next_number() as usize;
-    let map = take_bytes(&mut map);
-    let coefs = take_bytes(&mut coefs);
-    match letter {
-        b'e' => run_encode(n, map, coefs, symbols),
-        b'D' => run_decode(n, map, coefs, frame, symbols),
-        b't' => run_round_trip(n, map, coefs, samples, frame, symbols, text),
-        b'o' => run_listing(n, map, coefs, frame, text),
-        b'w' => run_write_sheet(n, map, coefs, text),
-        _ => false,
+impl<R: Print, F: BufRead> Run<'_, R, F> {
+    // Runs the record of the call with this letter.
+    fn record(&mut self, letter: u8) -> Result<(), BrokenRecord> {
+        self.input.end_token()?;
+        match letter {
+            b'e' => self.encode(),
+            b's' => self.spread(),
+            b'c' => self.send(),
+            b'd' => self.demap(),
+            b'p' => self.place_llrs(),
+            b'D' => self.decode(),
+            b't' => self.round_trip(),
+            b'h' => self.read_sheet(),
+            b'l' => self.read_line(),
+            b'f' => self.feed_line(),
+            b'g' => self.end_frame(),
+            b'i' => self.place_line(),
+            b'n' => self.number_line(),
+            b'o' => self.list(),
+            b'w' => self.write_sheet(),
+            b'x' => self.write_line(),
+            b'm' => self.products(),
+            b'a' => self.shift_distance(),
+            b'b' => self.least_distance(),
+            b'j' => self.shifts_within(),
+            b'k' => self.premise_holds(),
+            _ => Err(BrokenRecord),
+        }
     }
 }
 
-// Runs the record whose first letter was read, and returns whether it kept its form. The buffers that are given keep
-// what a record leaves for the next one; the others are all zeros at the start of each record.
-fn run_record(
-    letter: u8,
-    symbols: &mut [u8],
-    numbers: &mut [u64],
-    samples: &mut [i8],
-    frame: &mut [u16],
-    text: &mut [u8],
-) -> bool {
-    match letter {
-        b's' => run_spread(symbols, numbers),
-        b'c' => run_channel(numbers, samples),
-        b'd' => run_demap(samples, frame),
-        b'p' => run_part(frame),
-        b'h' => run_sheet(text),
-        b'l' => run_frame_line(frame, text),
-        b'f' => run_feed(frame, text),
-        b'g' => run_end(),
-        b'i' => run_place_line(frame),
-        b'n' => run_number_line(),
-        b'm' => run_products(),
-        b'x' => run_write_line(frame, text),
-        b'a' | b'b' | b'j' | b'k' => run_base(letter, text),
-        _ => run_coded(letter, symbols, samples, frame, text),
-    }
-}
-
-// Runs all records.
-fn main() {
-    let mut symbols = [0u8; PLACES];
-    let mut numbers = [0u64; NUMBERS];
-    let mut samples = [0i8; LONGEST];
-    let mut frame = [0u16; LONGEST];
-    let mut text = [0u8; TEXT];
-    let mut i: usize = 0;
-    while i < MOST_RECORDS {
-        let letter = next_byte();
-        if letter == 0 {
+// Runs all records. The run ends with the input, at a NUL byte in the place of a letter, and where no blank or line
+// feed follows a record.
+fn main(rt: HostRuntime) {
+    let mut run = Run {
+        rt: &rt,
+        input: Input::new(rt.reader()),
+        kept: Buffers::new(),
+    };
+    for i in 1..=MOST_RECORDS {
+        let Some(letter) = run.input.next_byte().filter(|letter| *letter != 0) else {
+            return;
+        };
+        if run.record(letter).is_err() {
+            let _ = println!(rt; "record {i} breaks its form");
             return;
         }
-        end_token();
-        let kept = run_record(
-            letter,
-            &mut symbols,
-            &mut numbers,
-            &mut samples,
-            &mut frame,
-            &mut text,
-        );
-        i += 1;
-        if !kept {
-            print_broken(i);
+        if run.input.end_token().is_err() {
             return;
         }
-        end_line();
     }
 }

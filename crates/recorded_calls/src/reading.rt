@@ -1,94 +1,75 @@
-// The readers of sheets and frames, and the lines of a listing. Each function reads the record of one call, makes the
-// call and prints the line. It returns whether the record kept its form; if not, no call is made.
-use crate::input::{ended, next_between, next_u8, next_u32};
-use crate::print::{print_bytes, print_next, print_number, print_words};
-use crate::slices::{KERNELS, PLACES, take_bytes, take_words};
-use crate::sums::byte_sum;
-use sheet::Answer;
+// The readers of sheets and frames, and the lines of a listing.
+use crate::entries::checksum;
+use crate::input::BrokenRecord;
+use crate::run::{Answer, Run, print_line};
+use crate::slices::{KERNELS, PLACES};
+use std::io::BufRead;
 
-// Prints the number and the value of an answer of the sheet reader: 0 and n, or that of a refusal.
-fn print_layers(answer: Answer) {
-    match answer {
-        Answer::Layers(n) => {
-            print_number(0);
-            print_next(n as u64);
-        }
-        Answer::Refused(number) => print_number(number as u64),
+impl<R: Print, F: BufRead> Run<'_, R, F> {
+    // `sheet::read_sheet`.
+    pub(crate) fn read_sheet(&mut self) -> Result<(), BrokenRecord> {
+        let mut map = [0u8; PLACES];
+        let mut coefs = [0u8; KERNELS];
+        let bytes = self.input.slice(&mut self.kept.text)?;
+        let map = self.input.slice(&mut map)?;
+        let coefs = self.input.slice(&mut coefs)?;
+        self.input.end_record()?;
+        let answer = sheet::read_sheet(bytes, map, coefs);
+        print_line(
+            self.rt,
+            Answer::from(answer),
+            &[checksum(map), checksum(coefs)],
+        );
+        Ok(())
     }
-}
 
-// `sheet::read_sheet`.
-pub(crate) fn run_sheet(text: &mut [u8]) -> bool {
-    let mut map = [0u8; PLACES];
-    let mut coefs = [0u8; KERNELS];
-    let bytes = take_bytes(text);
-    let map = take_bytes(&mut map);
-    let coefs = take_bytes(&mut coefs);
-    if !ended() {
-        return false;
+    // `sheet::read_frame_line`.
+    pub(crate) fn read_line(&mut self) -> Result<(), BrokenRecord> {
+        let line = self.input.slice(&mut self.kept.text)?;
+        let llrs = self.input.slice(&mut self.kept.frame)?;
+        self.input.end_record()?;
+        let answer = sheet::read_frame_line(line, llrs);
+        print_line(self.rt, Answer::from(answer), &[checksum(llrs)]);
+        Ok(())
     }
-    print_layers(sheet::read_sheet(bytes, map, coefs));
-    print_bytes(map);
-    print_bytes(coefs);
-    true
-}
 
-// `sheet::read_frame_line`.
-pub(crate) fn run_frame_line(frame: &mut [u16], text: &mut [u8]) -> bool {
-    let line = take_bytes(text);
-    let llrs = take_words(frame);
-    if !ended() {
-        return false;
+    // `frame_file::feed_line`.
+    pub(crate) fn feed_line(&mut self) -> Result<(), BrokenRecord> {
+        let verdict = self.input.number()?;
+        let line = self.input.slice(&mut self.kept.text)?;
+        let llrs = self.input.slice(&mut self.kept.frame)?;
+        self.input.end_record()?;
+        let verdict = frame_file::feed_line(verdict, line, llrs);
+        print_line(self.rt, verdict, &[checksum(llrs)]);
+        Ok(())
     }
-    print_number(sheet::read_frame_line(line, llrs) as u64);
-    print_words(llrs);
-    true
-}
 
-// `frame_file::feed_line`.
-pub(crate) fn run_feed(frame: &mut [u16], text: &mut [u8]) -> bool {
-    let verdict = next_u8();
-    let line = take_bytes(text);
-    let llrs = take_words(frame);
-    if !ended() {
-        return false;
+    // `frame_file::end_frame`.
+    pub(crate) fn end_frame(&mut self) -> Result<(), BrokenRecord> {
+        let verdict = self.input.number()?;
+        let left = self.input.number_within(0, 1)? == 1;
+        self.input.end_record()?;
+        print_line(self.rt, frame_file::end_frame(verdict, left), &[]);
+        Ok(())
     }
-    print_number(frame_file::feed_line(verdict, line, llrs) as u64);
-    print_words(llrs);
-    true
-}
 
-// `frame_file::end_frame`.
-pub(crate) fn run_end() -> bool {
-    let verdict = next_u8();
-    let left = next_between(0, 1) == 1;
-    if !ended() {
-        return false;
+    // `listing::place_line`: the checksum of its bytes.
+    pub(crate) fn place_line(&mut self) -> Result<(), BrokenRecord> {
+        let place = self.input.number()?;
+        let symbol = self.input.number()?;
+        let llrs = self.input.slice(&mut self.kept.frame)?;
+        self.input.end_record()?;
+        let line = listing::place_line(place, symbol, llrs);
+        print_line(self.rt, checksum(&line), &[]);
+        Ok(())
     }
-    print_number(frame_file::end_frame(verdict, left) as u64);
-    true
-}
 
-// `listing::place_line`: the checksum of its bytes.
-pub(crate) fn run_place_line(frame: &mut [u16]) -> bool {
-    let place = next_u32();
-    let symbol = next_u8();
-    let llrs = take_words(frame);
-    if !ended() {
-        return false;
+    // `listing::number_line`: the same.
+    pub(crate) fn number_line(&mut self) -> Result<(), BrokenRecord> {
+        let number = self.input.number()?;
+        self.input.end_record()?;
+        let line = listing::number_line(number);
+        print_line(self.rt, checksum(&line), &[]);
+        Ok(())
     }
-    let line = listing::place_line(place, symbol, llrs);
-    print_number(byte_sum(&line));
-    true
-}
-
-// `listing::number_line`: the same.
-pub(crate) fn run_number_line() -> bool {
-    let number = next_u32();
-    if !ended() {
-        return false;
-    }
-    let line = listing::number_line(number);
-    print_number(byte_sum(&line));
-    true
 }

@@ -1,88 +1,49 @@
-// The calls on a base: chip distances, and whether the premise of the noiseless statement holds. Each function reads
-// the record of one call from after the base on, makes the call and prints the line. It returns whether the record kept
-// its form; if not, no call is made.
-use crate::input::{ended, next_number, next_u32};
-use crate::print::{print_bytes, print_next, print_number};
-use crate::slices::take_bytes;
-use distances::{Answer, Holds};
+// The calls on a base: chip distances, and whether the premise of the noiseless statement holds.
+use crate::entries::checksum;
+use crate::input::BrokenRecord;
+use crate::run::{Answer, Run, print_line};
+use std::io::BufRead;
 
-// Prints the number and the value of an answer: 0 and what was counted, or that of a refusal.
-fn print_counted(answer: Answer) {
-    match answer {
-        Answer::Count(count) => {
-            print_number(0);
-            print_next(count as u64);
-        }
-        Answer::Refused(number) => print_number(number as u64),
+impl<R: Print, F: BufRead> Run<'_, R, F> {
+    // `distances::shift_distance`.
+    pub(crate) fn shift_distance(&mut self) -> Result<(), BrokenRecord> {
+        let base = self.input.number()?;
+        let s = self.input.number()?;
+        self.input.end_record()?;
+        let answer = distances::shift_distance(base, s);
+        print_line(self.rt, Answer::from(answer), &[]);
+        Ok(())
     }
-}
 
-// The same for yes, which is 1, and no, which is 0.
-fn print_holds(answer: Holds) {
-    match answer {
-        Holds::Yes => {
-            print_number(0);
-            print_next(1);
-        }
-        Holds::No => {
-            print_number(0);
-            print_next(0);
-        }
-        Holds::Refused(number) => print_number(number as u64),
+    // `distances::least_distance`.
+    pub(crate) fn least_distance(&mut self) -> Result<(), BrokenRecord> {
+        let base = self.input.number()?;
+        self.input.end_record()?;
+        let answer = distances::least_distance(base);
+        print_line(self.rt, Answer::from(answer), &[]);
+        Ok(())
     }
-}
 
-// `distances::shift_distance`.
-fn run_distance(base: u64) -> bool {
-    let s = next_number();
-    if !ended() {
-        return false;
+    // `distances::shifts_within`.
+    pub(crate) fn shifts_within(&mut self) -> Result<(), BrokenRecord> {
+        let base = self.input.number()?;
+        let d = self.input.number()?;
+        let shifts = self.input.slice(&mut self.kept.text)?;
+        self.input.end_record()?;
+        let answer = distances::shifts_within(base, d, shifts);
+        print_line(self.rt, Answer::from(answer), &[checksum(shifts)]);
+        Ok(())
     }
-    print_counted(distances::shift_distance(base, s));
-    true
-}
 
-// `distances::least_distance`.
-fn run_least(base: u64) -> bool {
-    if !ended() {
-        return false;
-    }
-    print_counted(distances::least_distance(base));
-    true
-}
-
-// `distances::shifts_within`.
-fn run_within(base: u64, text: &mut [u8]) -> bool {
-    let d = next_u32();
-    let shifts = take_bytes(text);
-    if !ended() {
-        return false;
-    }
-    print_counted(distances::shifts_within(base, d, shifts));
-    print_bytes(shifts);
-    true
-}
-
-// `distances::premise_holds`.
-fn run_premise(base: u64) -> bool {
-    let amplitude = next_u32();
-    let top = next_u32();
-    let bottom = next_u32();
-    if !ended() {
-        return false;
-    }
-    print_holds(distances::premise_holds(base, amplitude, top, bottom));
-    true
-}
-
-// Runs the record of one of these calls: the base comes first.
-pub(crate) fn run_base(letter: u8, text: &mut [u8]) -> bool {
-    let base = next_number();
-    match letter {
-        b'a' => run_distance(base),
-        b'b' => run_least(base),
-        b'j' => run_within(base, text),
-        b'k' => run_premise(base),
-        _ => false,
+    // `distances::premise_holds`.
+    pub(crate) fn premise_holds(&mut self) -> Result<(), BrokenRecord> {
+        let base = self.input.number()?;
+        let amplitude = self.input.number()?;
+        let top = self.input.number()?;
+        let bottom = self.input.number()?;
+        self.input.end_record()?;
+        let answer = distances::premise_holds(base, amplitude, top, bottom);
+        print_line(self.rt, Answer::from(answer), &[]);
+        Ok(())
     }
 }

@@ -1,6 +1,7 @@
 // Slices of records, as parts of the buffers that they are kept in.
-use crate::input::within;
-use crate::values::take_values;
+use crate::entries::Entry;
+use crate::input::{BrokenRecord, Input};
+use std::io::BufRead;
 
 // The entries of the buffers: of those with a byte for each place, of the coefficients, of a text, of those with a
 // number for each place, and of the longest ones.
@@ -14,101 +15,92 @@ pub(crate) const NUMBERS: usize = 300;
 
 pub(crate) const LONGEST: usize = 20000;
 
-// A value, 0 where there is none.
-fn value_at(values: &[u64], i: usize) -> u64 {
-    if i < values.len() { values[i] } else { 0 }
+// The buffers that keep what a record leaves for the next one.
+#[derive(Drop)]
+pub(crate) struct Buffers {
+    pub(crate) symbols: [u8; PLACES],
+    pub(crate) numbers: [u64; NUMBERS],
+    pub(crate) samples: [i8; LONGEST],
+    pub(crate) frame: [u16; LONGEST],
+    pub(crate) text: [u8; TEXT],
 }
 
-// The signed byte with these bits.
-fn signed(bits: u64) -> i8 {
-    let byte = bits % 256;
-    if byte < 128 {
-        byte as i8
-    } else {
-        (byte as i16 - 256) as i8
+impl Buffers {
+    // The buffers at the start.
+    pub(crate) fn new() -> Buffers {
+        Buffers {
+            symbols: [0; PLACES],
+            numbers: [0; NUMBERS],
+            samples: [0; LONGEST],
+            frame: [0; LONGEST],
+            text: [0; TEXT],
+        }
     }
 }
 
-// Puts values into a buffer of bytes.
-fn put_bytes(values: &[u64], s: &mut [u8]) {
-    let mut i: usize = 0;
-    while i < s.len() {
-        s[i] = within(value_at(values, i), 255) as u8;
-        i += 1;
+// The buffers of a code, all zeros at the start of each record.
+#[derive(Drop)]
+pub(crate) struct CodeBuffers {
+    map: [u8; PLACES],
+    coefs: [u8; KERNELS],
+}
+
+impl CodeBuffers {
+    // The buffers at the start.
+    pub(crate) fn new() -> CodeBuffers {
+        CodeBuffers {
+            map: [0; PLACES],
+            coefs: [0; KERNELS],
+        }
     }
 }
 
-// The same for a buffer of 16-bit numbers.
-fn put_words(values: &[u64], s: &mut [u16]) {
-    let mut i: usize = 0;
-    while i < s.len() {
-        s[i] = within(value_at(values, i), 65535) as u16;
-        i += 1;
-    }
+// A code, as a record gives it.
+#[derive(Clone, Copy)]
+pub(crate) struct Code<'a> {
+    pub(crate) n: usize,
+    pub(crate) map: &'a [u8],
+    pub(crate) coefs: &'a [u8],
 }
 
-// And for one of samples, by their bytes.
-pub(crate) fn put_samples(values: &[u64], s: &mut [i8]) {
-    let mut i: usize = 0;
-    while i < s.len() {
-        s[i] = signed(within(value_at(values, i), 255));
-        i += 1;
+impl<F: BufRead> Input<F> {
+    // Reads the values of a slice, by the rule with this letter, and puts them there.
+    fn put<T: Entry>(&mut self, part: &mut [T], rule: u8) -> Result<(), BrokenRecord> {
+        let mut values = [0; LONGEST];
+        let values = values.get_mut(..part.len()).ok_or(BrokenRecord)?;
+        self.read_values(values, rule)?;
+        for (entry, value) in part.iter_mut().zip(values) {
+            *entry = T::from_value(*value)?;
+        }
+        Ok(())
     }
-}
 
-// And for one of 64-bit numbers.
-fn put_numbers(values: &[u64], s: &mut [u64]) {
-    let mut i: usize = 0;
-    while i < s.len() {
-        s[i] = value_at(values, i);
-        i += 1;
+    // Reads a slice that a buffer keeps: the first entries of it, with their values or as they were left.
+    pub(crate) fn slice<'a, T: Entry>(
+        &mut self,
+        buffer: &'a mut [T],
+    ) -> Result<&'a mut [T], BrokenRecord> {
+        let length: usize = self.number()?;
+        let part = buffer.get_mut(..length).ok_or(BrokenRecord)?;
+        let rule = self.letter()?;
+        if rule == b'=' {
+            self.expect_byte(b';')?;
+            self.end_token()?;
+        } else {
+            self.put(part, rule)?;
+        }
+        Ok(part)
     }
-}
 
-// Reads a slice of bytes that a buffer keeps.
-pub(crate) fn take_bytes(store: &mut [u8]) -> &mut [u8] {
-    let mut values = [0u64; LONGEST];
-    let taken = take_values(&mut values);
-    let end = within(taken.length as u64, store.len() as u64) as usize;
-    let part = &mut store[..end];
-    if !taken.left {
-        put_bytes(&values, part);
+    // Reads a code: n, the map and the coefficients.
+    pub(crate) fn code<'a>(
+        &mut self,
+        buffers: &'a mut CodeBuffers,
+    ) -> Result<Code<'a>, BrokenRecord> {
+        let n = self.number()?;
+        let CodeBuffers { map, coefs } = buffers;
+        let map = self.slice(map)?;
+        let coefs = self.slice(coefs)?;
+        Ok(Code { n, map, coefs })
     }
-    part
-}
-
-// Reads one of 16-bit numbers.
-pub(crate) fn take_words(store: &mut [u16]) -> &mut [u16] {
-    let mut values = [0u64; LONGEST];
-    let taken = take_values(&mut values);
-    let end = within(taken.length as u64, store.len() as u64) as usize;
-    let part = &mut store[..end];
-    if !taken.left {
-        put_words(&values, part);
-    }
-    part
-}
-
-// Reads one of samples.
-pub(crate) fn take_samples(store: &mut [i8]) -> &mut [i8] {
-    let mut values = [0u64; LONGEST];
-    let taken = take_values(&mut values);
-    let end = within(taken.length as u64, store.len() as u64) as usize;
-    let part = &mut store[..end];
-    if !taken.left {
-        put_samples(&values, part);
-    }
-    part
-}
-
-// Reads one of 64-bit numbers.
-pub(crate) fn take_numbers(store: &mut [u64]) -> &mut [u64] {
-    let mut values = [0u64; LONGEST];
-    let taken = take_values(&mut values);
-    let end = within(taken.length as u64, store.len() as u64) as usize;
-    let part = &mut store[..end];
-    if !taken.left {
-        put_numbers(&values, part);
-    }
-    part
 }

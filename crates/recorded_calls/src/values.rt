@@ -1,165 +1,107 @@
-// The values of a slice as a record gives them: a length, a rule, changes of single entries, and ';' at the end.
+// The values of a slice as a record gives them: a rule, changes of single entries, and ';' at the end.
 ghost use Rattle.std.specs.Prelude.{◌<◌};
 
-use crate::input::{drop_rest, end_token, next_between, next_digits, next_letter, next_number};
+use crate::draws::Draws;
+use crate::input::{BrokenRecord, Input};
+use std::io::BufRead;
 
-// The most changes that a slice can have.
+// The most changes that a slice can have, with its end.
 const MOST_CHANGES: usize = 65536;
 
-// How many entries a slice has, and whether they are those that the record before left.
-#[derive(Clone, Copy)]
-pub(crate) struct Taken {
-    pub(crate) length: usize,
-    pub(crate) left: bool,
-}
+// The entries of a vector.
+const VECTOR: usize = 64;
 
-// How entries are drawn: from `low` on and one of `range`, at most `top`; and whether one entry of each 64 is 0.
-#[derive(Clone, Copy)]
+// How entries are drawn: from `low` on and one of `range`, at most `top`.
+#[derive(Drop)]
 struct Drawing {
-    low: u64,
+    draws: Draws,
+    low: u16,
     range: u64,
     top: u64,
-    vectors: bool,
+    ghost some_range: { 0 < range },
 }
 
-// The next state of the 32-bit linear congruential generator.
-pub(crate) fn step(state: u64) -> u64 {
-    (state % 4294967296 * 1664525 + 1013904223) % 4294967296
-}
-
-// What is drawn in a state: its upper 16 bits, modulo range; 0 for a range of 0.
-pub(crate) fn drawn(state: u64, range: u64) -> u64
-    ensures { result < 65536 }
-{
-    if range == 0 {
-        return 0;
+impl Drawing {
+    // Draws the next entry.
+    fn entry(&mut self) -> u64 {
+        let drawn = u64::from(self.draws.draw()) % self.range;
+        (u64::from(self.low) + drawn).min(self.top)
     }
-    state / 65536 % 65536 % range
-}
 
-// Each entry is the same.
-fn fill_repeated(values: &mut [u64], x: u64) {
-    let mut i: usize = 0;
-    while i < values.len() {
-        values[i] = x;
-        i += 1;
-    }
-}
-
-// Each entry is written out, by hexadecimal digits, as many as come first.
-fn fill_written(values: &mut [u64]) {
-    let width = next_between(1, 16);
-    let mut i: usize = 0;
-    while i < values.len() {
-        values[i] = next_digits(width);
-        i += 1;
-    }
-    end_token();
-}
-
-// Whether a vector with a 0 begins at entry i.
-fn begins(drawing: Drawing, i: usize) -> bool {
-    drawing.vectors && i % 64 == 0
-}
-
-// The entry that is drawn in a state; 0 where its vector has its 0 there.
-fn entry(drawing: Drawing, state: u64, is_zero: bool) -> u64 {
-    if is_zero {
-        return 0;
-    }
-    let x = drawing.low % 65536 + drawn(state, drawing.range);
-    if x < drawing.top { x } else { drawing.top }
-}
-
-// Entries are drawn.
-fn fill_drawn(values: &mut [u64], seed: u64, drawing: Drawing) {
-    let mut state = seed;
-    let mut zero: u64 = 64;
-    let mut i: usize = 0;
-    while i < values.len() {
-        if begins(drawing, i) {
-            state = step(state);
-            zero = drawn(state, 64);
+    // Draws each of these entries.
+    fn fill(&mut self, values: &mut [u64]) {
+        for value in values.iter_mut() {
+            *value = self.entry();
         }
-        state = step(state);
-        values[i] = entry(drawing, state, i as u64 % 64 == zero);
-        i += 1;
     }
-}
 
-// Reads how entries are drawn, and draws them.
-fn take_drawn(values: &mut [u64], vectors: bool) {
-    let seed = next_between(0, 4294967295);
-    let low = next_between(0, 65535);
-    let range = next_between(1, 65536);
-    let top = next_number();
-    fill_drawn(
-        values,
-        seed,
-        Drawing {
-            low,
-            range,
-            top,
-            vectors,
-        },
-    );
-}
-
-// Fills the entries by the rule with this letter.
-fn fill(values: &mut [u64], rule: u8) {
-    match rule {
-        b'r' => fill_repeated(values, next_number()),
-        b's' => take_drawn(values, false),
-        b'v' => take_drawn(values, true),
-        b'x' => fill_written(values),
-        _ => drop_rest(),
-    }
-}
-
-// Changes an entry, if there is one at this index.
-fn change(values: &mut [u64], at: u64, x: u64) {
-    let i = at as usize;
-    if i < values.len() {
-        values[i] = x;
-    } else {
-        drop_rest();
-    }
-}
-
-// Makes the changes, up to the ';' that ends the slice.
-fn make_changes(values: &mut [u64]) {
-    let mut count: usize = 0;
-    while count < MOST_CHANGES {
-        let letter = next_letter();
-        if letter == b';' {
-            return;
+    // The same, with an entry that is 0 in each vector: one more draw, before those of the vector, says which.
+    fn fill_vectors(&mut self, values: &mut [u64]) {
+        for vector in values.chunks_mut(VECTOR) {
+            let zero = usize::from(self.draws.draw()) % VECTOR;
+            self.fill(vector);
+            if let Some(value) = vector.get_mut(zero) {
+                *value = 0;
+            }
         }
-        if letter != b'@' {
-            break;
-        }
-        let at = next_number();
-        let x = next_number();
-        change(values, at, x);
-        count += 1;
     }
-    drop_rest();
 }
 
-// Reads a slice, and puts its values into the first entries of `values`, unless they are left as they were.
-pub(crate) fn take_values(values: &mut [u64]) -> Taken {
-    let length = next_between(0, values.len() as u64) as usize;
-    let rule = next_letter();
-    if rule == b'=' {
-        if next_letter() != b';' {
-            drop_rest();
-        }
-        return Taken { length, left: true };
+impl<F: BufRead> Input<F> {
+    // Reads how entries are drawn.
+    fn drawing(&mut self) -> Result<Drawing, BrokenRecord> {
+        let seed: u32 = self.number()?;
+        Ok(Drawing {
+            draws: Draws::from(seed),
+            low: self.number()?,
+            range: self.number_within(1, 65536)?,
+            top: self.number()?,
+        })
     }
-    let part = &mut values[..length];
-    fill(part, rule);
-    make_changes(part);
-    Taken {
-        length,
-        left: false,
+
+    // Reads entries that are written out, by hexadecimal digits, as many as come first.
+    fn fill_written(&mut self, values: &mut [u64]) -> Result<(), BrokenRecord> {
+        let digits = self.number_within(1, 16)?;
+        for value in values.iter_mut() {
+            *value = self.hexadecimal(digits)?;
+        }
+        self.end_token()
+    }
+
+    // Fills the entries by the rule with this letter.
+    fn fill(&mut self, values: &mut [u64], rule: u8) -> Result<(), BrokenRecord> {
+        match rule {
+            b'r' => values.fill(self.number()?),
+            b's' => self.drawing()?.fill(values),
+            b'v' => self.drawing()?.fill_vectors(values),
+            b'x' => self.fill_written(values)?,
+            _ => return Err(BrokenRecord),
+        }
+        Ok(())
+    }
+
+    // Reads a change of an entry, and makes it.
+    fn change(&mut self, values: &mut [u64]) -> Result<(), BrokenRecord> {
+        let at: usize = self.number()?;
+        *values.get_mut(at).ok_or(BrokenRecord)? = self.number()?;
+        Ok(())
+    }
+
+    // Makes the changes, up to the ';' that ends the slice.
+    fn make_changes(&mut self, values: &mut [u64]) -> Result<(), BrokenRecord> {
+        for _ in 0..MOST_CHANGES {
+            match self.letter()? {
+                b';' => return Ok(()),
+                b'@' => self.change(values)?,
+                _ => return Err(BrokenRecord),
+            }
+        }
+        Err(BrokenRecord)
+    }
+
+    // Reads the values of all entries of a slice, by the rule with this letter.
+    pub(crate) fn read_values(&mut self, values: &mut [u64], rule: u8) -> Result<(), BrokenRecord> {
+        self.fill(values, rule)?;
+        self.make_changes(values)
     }
 }

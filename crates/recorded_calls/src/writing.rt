@@ -1,28 +1,29 @@
-// The writers of sheets and frames. Each function reads the record of one call, that of a sheet from after the code on,
-// makes the call and prints the line. It returns whether the record kept its form; if not, no call is made.
-use crate::input::ended;
-use crate::print::{print_bytes, print_number};
-use crate::slices::{take_bytes, take_words};
+// The writers of sheets and frames.
+use crate::entries::checksum;
+use crate::input::BrokenRecord;
+use crate::run::{Answer, Run, print_line};
+use crate::slices::CodeBuffers;
+use std::io::BufRead;
 
-// `writer::write_sheet`.
-pub(crate) fn run_write_sheet(n: usize, map: &[u8], coefs: &[u8], text: &mut [u8]) -> bool {
-    let out = take_bytes(text);
-    if !ended() {
-        return false;
+impl<R: Print, F: BufRead> Run<'_, R, F> {
+    // `writer::write_sheet`.
+    pub(crate) fn write_sheet(&mut self) -> Result<(), BrokenRecord> {
+        let mut code = CodeBuffers::new();
+        let code = self.input.code(&mut code)?;
+        let out = self.input.slice(&mut self.kept.text)?;
+        self.input.end_record()?;
+        let answer = writer::write_sheet(code.n, code.map, code.coefs, out);
+        print_line(self.rt, Answer::from(answer), &[checksum(out)]);
+        Ok(())
     }
-    print_number(writer::write_sheet(n, map, coefs, out) as u64);
-    print_bytes(out);
-    true
-}
 
-// `writer::write_frame_line`.
-pub(crate) fn run_write_line(frame: &mut [u16], text: &mut [u8]) -> bool {
-    let llrs = take_words(frame);
-    let line = take_bytes(text);
-    if !ended() {
-        return false;
+    // `writer::write_frame_line`.
+    pub(crate) fn write_line(&mut self) -> Result<(), BrokenRecord> {
+        let llrs = self.input.slice(&mut self.kept.frame)?;
+        let line = self.input.slice(&mut self.kept.text)?;
+        self.input.end_record()?;
+        let answer = writer::write_frame_line(llrs, line);
+        print_line(self.rt, Answer::from(answer), &[checksum(line)]);
+        Ok(())
     }
-    print_number(writer::write_frame_line(llrs, line) as u64);
-    print_bytes(line);
-    true
 }

@@ -1,9 +1,0 @@
--- `products_of` stays inside its array, and ends.
-use Prim.Native.Nat.{◌-◌, ◌≤◌}
-use Rattle.recorded_calls.proofs.field.products_of.Given as goal
-
-abbrev pub invariant-loop-i : goal.invariant-loop-i
-invariant-loop-i l = l.i ≤ 256
-
-abbrev pub decreases-loop-i : goal.decreases-loop-i
-decreases-loop-i l = 256 - l.i
