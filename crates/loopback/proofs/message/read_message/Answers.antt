@@ -1,5 +1,7 @@
 -- A message place leaves room for its symbol, a place more is read or passed over, and at the end all are read (ReadLaws).
-use Rattle.std.proofs.Common.{◌≡◌, ℕ, List, ◌++◌, sym, ap, ◌∙◌, rules, get_or, take, drop}
+-- A place's kind, and that all places are past, are stated and found by the search: so a wrong loop fails by the fact
+-- that it lacks.
+use Rattle.std.proofs.Common.{◌≡◌, ◌≤◌, ℕ, List, length, ◌++◌, sym, ap, ◌∙◌, rules, get_or, take, drop}
 use mathlib.Core.List.{append-nil}
 use native.Mathlib.Omega.{arith}
 use lib.ListN.{drop_of_length-le}
@@ -11,7 +13,6 @@ use Rattle.loopback.proofs.ReadLaws.{as_read, room_left, read_more, read_past}
 use Rattle.loopback.proofs.message.read_message.Goals.{in-Message, in_default}
 use Rattle.loopback.proofs.message.read_message.Goals as goal
 
--- the kind is stated here and found by the search: so a wrong place fails by the fact that it lacks
 pub bounds-message-next : goal.bounds-message-next
 bounds-message-next c =
     let kind : kind_of (get_or c.args.map.now c.loop-j.j 0) ≡ message = search rules in
@@ -32,7 +33,8 @@ unfolding message_of message_places
 returns c =
     let a = c.args in
     let at = c.loop-j in
-    let end = drop_of_length-le a.map.now c.loop-j-test.false in
+    let past : length a.map.now ≤ at.j = search rules in
+    let end = drop_of_length-le a.map.now past in
     let all = ap message_places end in
     let left = at.invariant.left in
     let long = at.invariant.long in
