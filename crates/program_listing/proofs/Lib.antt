@@ -1,2 +1,1 @@
 pub mod ListingLaws
-pub mod LineLaws

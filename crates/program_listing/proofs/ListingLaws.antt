@@ -1,4 +1,6 @@
 -- What it means that `decode_listing` accepts its input, and that what the decoder then leaves makes the listing.
+use Rattle.std.proofs.Common.{Result, Ok, Err, refl}
+use Rattle.std.specs.Result.{result_unwrap_or}
 use mathlib.Core.Path.{◌≡◌, ap, ap₂, ◌∙◌}
 use mathlib.Core.List.{List, ◌++◌}
 use Prim.Native.Nat.{ℕ, ◌*◌, ◌/◌, ◌^◌, ◌<◌}
@@ -6,34 +8,33 @@ use native.Mathlib.Nat.{le_refl}
 use lib.Dec.{lit≤}
 use lib.ListN.{length, get_or}
 use Rattle.refusal.specs.Returned.{Returned}
-use Rattle.refusal.specs.Table.{refusal_of, Numbered}
+use Rattle.refusal.specs.Table.{Numbered}
 use Rattle.refusal.proofs.Laws.{accepted_none, none_accepted}
 use Rattle.refusal.proofs.WalkLaws.{numbered}
 use Rattle.refusal.proofs.Within.{false_equal, equal_false}
 use Rattle.vector.specs.Vector.{vector_at, joined}
 use Rattle.vector.proofs.Laws.{joined_ext}
-use Rattle.polar_code.specs.Code.{Code, code_sizes}
-use Rattle.polar_code.specs.Sizes.{places_of}
-use Rattle.polar_code.proofs.CodeLaws.{rows_code, sizes_of_code, code_bytes, after_sizes}
+use Rattle.polar_code.specs.Code.{Code}
+use Rattle.polar_code.proofs.CodeLaws.{rows_code, sizes_of_code, code_bytes}
 use Rattle.decoder_refusal.specs.Refusals.{Lent, settings_of, decode_refusal}
 use Rattle.decoder_refusal.proofs.RefusalLaws.{frame_of_rows, small_frame, zeros_frame}
 use Rattle.decoder_refusal.proofs.RefusalLaws.{accepts as decoder-accepts}
-use Rattle.decoder.specs.Decode.{returned, Decoded}
-use Rattle.decoder.specs.declared.decoder.Answer.{Answer}
+use Rattle.refusal.specs.declared.kinds.Refusal.{Refusal}
+use Rattle.refusal.specs.Kinds.{returned}
+use Rattle.decoder.specs.Decode.{Decoded}
 use Rattle.listing.specs.Listing.{place_line, number_line}
-use Rattle.program_listing.specs.Listing.{listing_length, line_at, program_listing, listing_rows, listing_table, listing_refusal, Listable}
+use Rattle.program_listing.specs.Listing.{listing_length, line_at, program_listing, listing_table, listing_refusal, Listable}
 use Rattle.program_listing.specs.Parts.{listing_of, Decoding}
+
+-- the count that the decoder answers, or 0 for a refusal
+count_or_none : (a : Result ℕ Refusal) → result_unwrap_or a 0 ≡ get_or (returned a).values 0 0
+count_or_none (Ok count) = refl
+count_or_none (Err refusal) = refl
 
 module _ (code : Code) (frame output : List ℕ) where
   -- no row has the number 0
   rows_numbered : Numbered (listing_table code frame output)
   rows_numbered = numbered (listing_table code frame output) tt
-
-  -- the rows as `listing_refusal` tries them: with the places that `place_count` gives
-  pub listing_tried : {r : ℕ} → r ≡ refusal_of (code_sizes code ++ listing_rows (places_of code.n) code frame output)
-      → r ≡ listing_refusal code frame output
-  unfolding listing_refusal
-  listing_tried = after_sizes code (λ places. listing_rows places code frame output)
 
   -- accepted exactly when no row fits
   pub accepted : listing_refusal code frame output ≡ 0 → Listable code frame output
@@ -80,15 +81,15 @@ module _ (code : Code) (frame output : List ℕ) where
         })
 
     -- what it leaves makes the listing
-    pub listing_made : {after : Lent} {a : Answer} → Decoded code (settings_of 5 13 64) frame lent after a
+    pub listing_made : {after : Lent} {a : Result ℕ Refusal} → Decoded code (settings_of 5 13 64) frame lent after a
         → length after.symbols ≡ length lent.symbols
-        → (count : ℕ) → count ≡ get_or (returned a).values 0 0
+        → (count : ℕ) → count ≡ result_unwrap_or a 0
         → listing_of after.symbols after.report count ≡ program_listing code frame
     unfolding listing_of program_listing
-    listing_made {after} done kept count e =
+    listing_made {after} {a} done kept count e =
         let line : ℕ → List ℕ = λ i. place_line i (get_or after.symbols i 0) (vector_at after.report i) in
         let same : (i : ℕ) → i < 2 ^ code.n → line i ≡ line_at code frame i = λ i l.
         ap₂ (λ (s : ℕ) (v : List ℕ). place_line i s v) (ap (λ (xs : List ℕ). get_or xs i 0) (done.decided decodes)) (done.reported decodes i l) in
         ap₂ (λ (xs ys : List ℕ). xs ++ ys)
         (ap (λ (k : ℕ). joined k line) (kept ∙ given.buffers.symbols_long) ∙ joined_ext (2 ^ code.n) line (line_at code frame) same)
-        (ap number_line (e ∙ ap (λ (x : Returned). get_or x.values 0 0) (done.counted decodes)))
+        (ap number_line (e ∙ count_or_none a ∙ ap (λ (x : Returned). get_or x.values 0 0) (done.counted decodes)))

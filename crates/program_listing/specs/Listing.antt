@@ -1,5 +1,5 @@
 -- What the program prints for a code and a frame, as bytes, and what `decode_listing` promises.
-use Rattle.std.specs.Prelude.{ℕ, ◌+◌, ◌*◌, ◌-◌, ◌^◌, ◌≡◌, cond, List, ◌∷◌, ◌++◌, eqb, length, get_or}
+use Rattle.std.specs.Prelude.{ℕ, ◌+◌, ◌*◌, ◌-◌, ◌^◌, ◌≡◌, cond, List, [], ◌∷◌, ◌++◌, eqb, length, get_or}
 use Rattle.refusal.specs.Table.{Row, refusal_of}
 use Rattle.refusal.specs.Rows.{length_row}
 use Rattle.vector.specs.Vector.{joined}
@@ -27,18 +27,19 @@ module _ (code : Code) (frame : List ℕ) where
   unfoldable pub program_listing : List ℕ
   program_listing = joined (2 ^ code.n) line_at ++ number_line (scms.count code mode frame)
 
--- the rows on the lengths of the frame and of the buffer for the listing, for this many places, and on what the slices
--- hold; the program decodes with Qc = 5, so the largest penalty is 2^5 − 1
-abbrev pub listing_rows : (places : ℕ) → Code → (frame output : List ℕ) → List Row
-listing_rows places code frame output =
-    length_row (length frame) (64 * places)
-    ∷ length_row (length output) (listing_length places)
-    ∷ code_table code.map code.coefs ++ penalty_table (2 ^ 5 - 1) frame
+-- the rows on n and the lengths: of the code, of the frame and of the buffer for the listing
+abbrev pub listing_sizes : Code → (frame output : List ℕ) → List Row
+listing_sizes code frame output =
+    code_sizes code
+    ++ length_row (length frame) (64 * 2 ^ code.n)
+    ∷ length_row (length output) (listing_length (2 ^ code.n))
+    ∷ []
 
 module _ (code : Code) (frame output : List ℕ) where
-  -- the rows of document 01's table that `decode_listing` has the input for, in its order
+  -- the rows of document 01's table that `decode_listing` has the input for, in its order: those, and the ones on what
+  -- the slices hold; the program decodes with Qc = 5, so the largest penalty is 2^5 − 1
   abbrev pub listing_table : List Row
-  listing_table = code_sizes code ++ listing_rows (2 ^ code.n) code frame output
+  listing_table = listing_sizes code frame output ++ code_table code.map code.coefs ++ penalty_table (2 ^ 5 - 1) frame
 
   -- the number of the refusal, 0 where the call is accepted
   unfoldable pub listing_refusal : ℕ

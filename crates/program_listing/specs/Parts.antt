@@ -6,14 +6,6 @@ use Rattle.decoder_refusal.specs.Refusals.{Lent, BuffersFit}
 use Rattle.listing.specs.Listing.{place_line, number_line}
 use Rattle.program_listing.specs.Listing.{listing_length, Listable}
 
--- the numbers of the longest work buffer: 65 for each of 256 places
-abbrev pub longest_work : ℕ
-longest_work = 16640
-
--- and of the longest report: 64 for each
-abbrev pub longest_report : ℕ
-longest_report = 16384
-
 -- the listing of symbols, a report and a count
 unfoldable pub listing_of : (symbols report : List ℕ) (count : ℕ) → List ℕ
 listing_of symbols report count =
@@ -29,11 +21,3 @@ pub record Listing (symbols report output : List ℕ) : Type 0 where
 pub record Decoding (code : Code) (frame output : List ℕ) (lent : Lent) : Type 0 where
   pub listable : Listable code frame output
   pub buffers : BuffersFit (2 ^ code.n) lent
-
--- what `list_in_parts` is given: the same with buffers that have room for the longest word
-pub record Roomy (code : Code) (frame output : List ℕ) (lent : Lent) : Type 0 where
-  pub listable : Listable code frame output
-  pub work_room : length lent.work ≡ longest_work
-  pub symbols_room : length lent.symbols ≡ 256
-  pub report_room : length lent.report ≡ longest_report
-  pub totals_room : length lent.totals ≡ 256

@@ -1,14 +1,22 @@
 // A frame decoded as the program decodes it, and its listing.
-ghost use Rattle.std.specs.Prelude.{◌≡◌, get_or};
-ghost use Rattle.polar_code.specs.Code.{code_of};
-ghost use Rattle.decoder.specs.Decode.{returned};
-ghost use Rattle.decoder_refusal.specs.Refusals.{lent_of};
+ghost use Rattle.std.specs.Prelude.{◌≡◌};
+ghost use Rattle.refusal.specs.Kinds.{number};
+ghost use Rattle.decoder_refusal.specs.Refusals.{lent_now};
 ghost use Rattle.program_listing.specs.Listing.{program_listing, Listable, Listed};
-ghost use Rattle.program_listing.specs.Parts.{Decoding, Roomy};
+ghost use Rattle.program_listing.specs.Parts.{Decoding};
 
 use crate::lines::write_listing;
-use crate::refusals::listing_refusal;
-use decoder::Answer;
+use crate::table::check;
+use decoder_refusal::{Lent, Settings};
+use polar_code::Code;
+use refusal::Refusal;
+
+// The program's precisions, Qc = 5 and Qm = 13, and full check nodes.
+const SETTINGS: Settings = Settings {
+    qc: 5,
+    qm: 13,
+    candidates: 64,
+};
 
 // The numbers of the longest work buffer: 65 for each of 256 places.
 const LONGEST_WORK: usize = 16640;
@@ -16,109 +24,56 @@ const LONGEST_WORK: usize = 16640;
 // And of the longest report: 64 for each.
 const LONGEST_REPORT: usize = 16384;
 
-// The count of clipped entries that the decoder answers, 0 for a refusal.
-fn count_of(answer: Answer) -> u32
-    ensures { result ≡ get_or (returned answer).values 0 0 }
+// Decodes at the program's settings and writes the listing. The decoder does not refuse what was accepted here.
+fn list_decoded(code: &Code, frame: &[u16], lent: Lent<'_>, output: &mut [u8])
+    requires { Decoding code.now frame.now output.old (lent_now lent) }
+    ensures { output.new ≡ program_listing code.now frame.now }
 {
-    match answer {
-        Answer::Count(count) => count,
-        Answer::Refused(_) => 0,
-    }
-}
-
-// Decodes at the program's precisions, Qc = 5 and Qm = 13, and writes the listing. The decoder does not refuse what was
-// accepted here.
-fn list_decoded(
-    n: usize,
-    map: &[u8],
-    coefs: &[u8],
-    frame: &[u16],
-    work: &mut [u16],
-    symbols: &mut [u8],
-    report: &mut [u16],
-    totals: &mut [u16],
-    output: &mut [u8],
-)
-    requires { Decoding (code_of n map.now coefs.now) frame.now output.old
-        (lent_of work.old symbols.old report.old totals.old) }
-    ensures { output.new
-        ≡ program_listing (code_of n map.now coefs.now) frame.now }
-{
-    let answer = decoder::decode(
-        n, map, coefs, 5, 13, 64, frame, work, symbols, report, totals,
-    );
-    write_listing(symbols, report, count_of(answer), output);
-}
-
-// The same with the starts of four buffers that have room for the longest word.
-fn list_in_parts(
-    n: usize,
-    map: &[u8],
-    coefs: &[u8],
-    frame: &[u16],
-    work: &mut [u16],
-    symbols: &mut [u8],
-    report: &mut [u16],
-    totals: &mut [u16],
-    output: &mut [u8],
-)
-    requires { Roomy (code_of n map.now coefs.now) frame.now output.old
-        (lent_of work.old symbols.old report.old totals.old) }
-    ensures { output.new
-        ≡ program_listing (code_of n map.now coefs.now) frame.now }
-{
-    let size = map.len();
-    let work_size = 65 * size;
-    let report_size = 64 * size;
-    list_decoded(
-        n,
-        map,
-        coefs,
-        frame,
-        &mut work[..work_size],
-        &mut symbols[..size],
-        &mut report[..report_size],
-        &mut totals[..size],
-        output,
-    );
+    let Lent {
+        work,
+        symbols,
+        report,
+        totals,
+    } = lent;
+    let lent = Lent {
+        work,
+        symbols: &mut *symbols,
+        report: &mut *report,
+        totals,
+    };
+    let count = decoder::decode(code, SETTINGS, frame, lent).unwrap_or(0);
+    write_listing(symbols, report, count, output);
 }
 
 // The same with buffers of its own.
-fn list_frame(n: usize, map: &[u8], coefs: &[u8], frame: &[u16], output: &mut [u8])
-    requires { Listable (code_of n map.now coefs.now) frame.now output.old }
-    ensures { output.new
-        ≡ program_listing (code_of n map.now coefs.now) frame.now }
+fn list_frame(code: &Code, frame: &[u16], output: &mut [u8])
+    requires { Listable code.now frame.now output.old }
+    ensures { output.new ≡ program_listing code.now frame.now }
 {
     let mut work = [0u16; LONGEST_WORK];
     let mut symbols = [0u8; 256];
     let mut report = [0u16; LONGEST_REPORT];
     let mut totals = [0u16; 256];
-    list_in_parts(
-        n,
-        map,
-        coefs,
-        frame,
-        &mut work,
-        &mut symbols,
-        &mut report,
-        &mut totals,
-        output,
-    );
+    let size = code.map.len();
+    let lent = Lent {
+        work: &mut work[..65 * size],
+        symbols: &mut symbols[..size],
+        report: &mut report[..64 * size],
+        totals: &mut totals[..size],
+    };
+    list_decoded(code, frame, lent, output);
 }
 
-// What the program prints for a frame of a code with n layers, this map and these coefficients: decodes the frame, 64
-// penalties for each of the N places, at Qc = 5 and Qm = 13, and writes into a buffer of just 21 N + 6 bytes a line for
-// each place in rising order (place, symbol, penalty held for that symbol, least penalty held for any other value, in
-// five columns each) and last a line with the count of clipped entries. Returns 0; or the lowest refusal of 1, 2, 4, 5,
-// 6, 8 and 9 that fits, and then the buffer is as it came.
-pub fn decode_listing(n: usize, map: &[u8], coefs: &[u8], frame: &[u16], output: &mut [u8]) -> u8
-    ensures { Listed (code_of n map.now coefs.now) frame.now
-        output.old output.new result }
+// What the program prints for a frame of a code: decodes the frame, 64 penalties for each of the N places, at Qc = 5 and
+// Qm = 13, and writes into a buffer of just 21 N + 6 bytes a line for each place in rising order (place, symbol, penalty
+// held for that symbol, least penalty held for any other value, in five columns each) and last a line with the count of
+// clipped entries. Refuses by the first of Layers (1), Length (2), MapByte (4), NoMessagePlace (5), Coefficient (6),
+// Penalty (8) and NoZero (9) that fits, in this order, and then the buffer is as it came.
+#[tactic(auto, using(refusal::proofs::KindLaws::left_kept, refusal::proofs::KindLaws::left_made), unfolding(crate::specs::Listing::listing_buffer))]
+pub fn decode_listing(code: &Code, frame: &[u16], output: &mut [u8]) -> Result<(), Refusal>
+    ensures { Listed code.now frame.now output.old output.new (number result) }
 {
-    let refused = listing_refusal(n, map, coefs, frame, output);
-    if refused != 0 {
-        return refused;
-    }
-    list_frame(n, map, coefs, frame, output);
-    0
+    check(code, frame, output)?;
+    list_frame(code, frame, output);
+    Ok(())
 }

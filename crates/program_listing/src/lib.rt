@@ -3,6 +3,6 @@
 
 mod decoding;
 mod lines;
-mod refusals;
+mod table;
 
 pub use decoding::decode_listing;

@@ -13,17 +13,14 @@ pub(crate) fn write_listing(symbols: &[u8], report: &[u16], count: u32, output: 
     requires { Listing symbols.now report.now output.old }
     ensures { output.new ≡ listing_of symbols.now report.now count }
 {
-    let mut place: usize = 0;
-    while place < symbols.len() {
+    for (place, symbol) in symbols.iter().enumerate() {
         let at = LINE * place;
         let end = at + LINE;
         let llrs = vector::place_llrs(report, place);
-        let line = listing::place_line(place as u32, symbols[place], llrs);
+        let line = listing::place_line(place as u32, *symbol, llrs);
         output[at..end].copy_from_slice(&line);
-        place += 1;
     }
     let at = LINE * symbols.len();
     let end = at + LAST_LINE;
-    let last = listing::number_line(count);
-    output[at..end].copy_from_slice(&last);
+    output[at..end].copy_from_slice(&listing::number_line(count));
 }

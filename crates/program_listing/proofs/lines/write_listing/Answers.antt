@@ -1,4 +1,4 @@
--- `write_listing` meets its contract: the lines of the places before `place` stand at the start of the buffer.
+-- A line more, and the last one with the count.
 use Rattle.std.proofs.Common.{◌≡◌, ℕ, ◌+◌, ◌*◌, sym, ap, ◌∙◌, arith, List, ◌++◌, length, get_or}
 use native.Mathlib.Nat.{le_of_eq}
 use Rattle.vector.specs.Vector.{joined}
@@ -37,4 +37,4 @@ returns c =
     (put_all put c.loop-place-test.false)
     (c.copy_from_slice-2.auto.self ∙ part)
     ∙ ap (λ (xs : List ℕ). joined places (line_of a.symbols.now a.report.now) ++ xs)
-    (c.copy_from_slice-2.ensures.after ∙ c.number_line-last.ensures)
+    (c.copy_from_slice-2.ensures.after ∙ c.number_line.ensures)

@@ -1,5 +1,5 @@
--- `write_listing`: the lines of the places before `place` stand at the start of the buffer.
-use Rattle.std.proofs.Common.{ℕ, ◌-◌, List, length, get_or}
+-- The lines of the places before `place` stand at the start of the buffer.
+use Rattle.std.proofs.Common.{ℕ, List, length, get_or}
 use Rattle.vector.specs.Vector.{vector_at}
 use Rattle.vector.proofs.JoinedLaws.{PutTo}
 use Rattle.listing.specs.Listing.{place_line}
@@ -14,6 +14,3 @@ abbrev pub invariant-loop-place : goal.invariant-loop-place
 invariant-loop-place l =
     Listing l.symbols l.report l.initial.output
     × PutTo 21 (length l.symbols) (line_of l.symbols l.report) l.initial.output l.output l.place
-
-abbrev pub decreases-loop-place : goal.decreases-loop-place
-decreases-loop-place l = length l.symbols - l.place
