@@ -3,22 +3,8 @@ use Rattle.std.specs.Prelude.{ℕ, ◌*◌, ◌^◌, ◌≡◌, List, length}
 use Rattle.polar_code.specs.Code.{Code, IsCode}
 use Rattle.program_listing.specs.Listing.{listing_length}
 
--- the penalties of the longest frame: 64 for each of 256 places
-abbrev pub longest_frame : ℕ
-longest_frame = 16384
-
--- the bytes of the longest listing: that of 256 places
-abbrev pub longest_listing : ℕ
-longest_listing = listing_length 256
-
 -- what `list_file` is given: a code, and room for a frame and a listing of its length
 pub record Given (code : Code) (frame output : List ℕ) : Type 0 where
   pub is_code : IsCode code
   pub frame_long : length frame ≡ 64 * 2 ^ code.n
   pub output_long : length output ≡ listing_length (2 ^ code.n)
-
--- what `list_in_parts` is given: a code, and room for the longest frame and the longest listing
-pub record Roomy (code : Code) (frame output : List ℕ) : Type 0 where
-  pub is_code : IsCode code
-  pub frame_room : length frame ≡ longest_frame
-  pub output_room : length output ≡ longest_listing

@@ -1,11 +1,12 @@
 // Reading a frame file, one line at a time, and printing its listing.
 ghost use Rattle.std.specs.Prelude.{◌≡◌};
-ghost use Rattle.polar_code.specs.Code.{code_of, IsCode};
+ghost use Rattle.polar_code.specs.Code.{IsCode};
 ghost use Rattle.files.specs.Printed.{FrameNumber, Penalties};
-ghost use Rattle.files.specs.Parts.{Given, Roomy};
+ghost use Rattle.files.specs.Parts.{Given};
 
 use crate::print::print_refusal;
 use crate::read::{open_some, read_some};
+use polar_code::Code;
 use std::io::Read;
 use std::rt::Files;
 
@@ -24,14 +25,11 @@ fn feed_file<F: Read>(file: &mut Option<F>, frame: &mut [u16]) -> u8
 {
     let mut line = [0u8; 257];
     let mut verdict: u8 = 0;
-    let count = frame.len() / 64;
-    let mut place: usize = 0;
-    while place < count {
+    for place in 0..frame.len() / 64 {
         let at = 64 * place;
         let end = at + 64;
         let got = read_some(file, &mut line);
         verdict = frame_file::feed_line(verdict, &line[..got], &mut frame[at..end]);
-        place += 1;
     }
     let left = read_some(file, &mut line[..1]) > 0;
     frame_file::end_frame(verdict, left)
@@ -52,65 +50,37 @@ fn read_frame<R: Files>(rt: &R, name: &[u8], frame: &mut [u16]) -> u8
 fn list_file<R: Files + Print>(
     rt: &R,
     name: &[u8],
-    n: usize,
-    map: &[u8],
-    coefs: &[u8],
+    code: &Code,
     frame: &mut [u16],
     output: &mut [u8],
 ) -> u8
-    requires { Given (code_of n map.now coefs.now) frame.old output.old }
+    requires { Given code.now frame.old output.old }
     ensures { FrameNumber result }
 {
     let verdict = read_frame(rt, name, frame);
     if verdict != 0 {
         return print_refusal(rt, verdict);
     }
-    let refused = program_listing::decode_listing(n, map, coefs, frame, output);
-    if refused != 0 {
-        return print_refusal(rt, refused);
+    if let Err(refusal) = program_listing::decode_listing(code, frame, output) {
+        return print_refusal(rt, u8::from(refusal));
     }
     let _ = rt.write_all(output);
     0
 }
 
-// The same with the starts of two buffers that have room for the longest word.
-fn list_in_parts<R: Files + Print>(
-    rt: &R,
-    name: &[u8],
-    n: usize,
-    map: &[u8],
-    coefs: &[u8],
-    frame: &mut [u16],
-    output: &mut [u8],
-) -> u8
-    requires { Roomy (code_of n map.now coefs.now) frame.old output.old }
-    ensures { FrameNumber result }
-{
-    let frame_size = 64 * map.len();
-    let output_size = 21 * map.len() + 6;
-    list_file(
-        rt,
-        name,
-        n,
-        map,
-        coefs,
-        &mut frame[..frame_size],
-        &mut output[..output_size],
-    )
-}
-
 // The same with buffers of its own.
-pub(crate) fn run_frame<R: Files + Print>(
-    rt: &R,
-    name: &[u8],
-    n: usize,
-    map: &[u8],
-    coefs: &[u8],
-) -> u8
-    requires { IsCode (code_of n map.now coefs.now) }
+pub(crate) fn run_frame<R: Files + Print>(rt: &R, name: &[u8], code: &Code) -> u8
+    requires { IsCode code.now }
     ensures { FrameNumber result }
 {
     let mut frame = [0u16; LONGEST_FRAME];
     let mut output = [0u8; LONGEST_LISTING];
-    list_in_parts(rt, name, n, map, coefs, &mut frame, &mut output)
+    let size = code.map.len();
+    list_file(
+        rt,
+        name,
+        code,
+        &mut frame[..64 * size],
+        &mut output[..21 * size + 6],
+    )
 }

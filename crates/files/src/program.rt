@@ -1,27 +1,16 @@
 // The program: the code sheet, then the frame.
-ghost use Rattle.std.specs.Prelude.{◌≡◌, ◌≤◌, length};
-ghost use Rattle.sheet.specs.CodeSheet.{returned};
+ghost use Rattle.std.specs.Prelude.{◌≤◌, length};
 ghost use Rattle.files.specs.Printed.{Printed};
 
 use crate::frame::run_frame;
 use crate::print::print_refusal;
 use crate::read::{open_some, read_some};
-use sheet::Answer;
+use polar_code::{Code, kernel_count, place_count};
 use std::rt::Files;
 
 // The bytes of a sheet that are read: one more than those of the longest sheet that is accepted. The first so many of a
 // longer one get the same verdict as all of it.
 const SHEET_BYTES: usize = 6406;
-
-// The number of an answer of the sheet reader: that of the refusal, 0 for a sheet that was accepted.
-fn refused_by(answer: Answer) -> u8
-    ensures { result ≡ (returned answer).number }
-{
-    match answer {
-        Answer::Layers(_) => 0,
-        Answer::Refused(number) => number,
-    }
-}
 
 // Reads a file, as far as buf goes, and returns how many bytes were read: none where it can't be opened.
 fn read_code<R: Files>(rt: &R, name: &[u8], buf: &mut [u8]) -> usize
@@ -41,11 +30,14 @@ pub fn run<R: Files + Print>(rt: &R, code_name: &[u8], frame_name: &[u8]) -> u8
     let mut map = [0u8; 256];
     let mut coefs = [0u8; 1024];
     let got = read_code(rt, code_name, &mut bytes);
-    let answer = sheet::read_sheet(&bytes[..got], &mut map, &mut coefs);
-    let Answer::Layers(n) = answer else {
-        return print_refusal(rt, refused_by(answer));
+    let n = match sheet::read_sheet(&bytes[..got], &mut map, &mut coefs) {
+        Ok(n) => n,
+        Err(refusal) => return print_refusal(rt, u8::from(refusal)),
     };
-    let size = polar_code::place_count(n);
-    let count = polar_code::kernel_count(n);
-    run_frame(rt, frame_name, n, &map[..size], &coefs[..count])
+    let code = Code {
+        n,
+        map: &map[..place_count(n)],
+        coefs: &coefs[..kernel_count(n)],
+    };
+    run_frame(rt, frame_name, &code)
 }
