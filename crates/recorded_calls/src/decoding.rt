@@ -2,85 +2,29 @@
 use crate::entries::checksum;
 use crate::input::{BrokenRecord, Input};
 use crate::run::{Answer, Run, print_line};
-use crate::slices::{Code, CodeBuffers, LONGEST, PLACES};
+use crate::slices::{CodeBuffers, LONGEST, PLACES};
+use decoder_refusal::{Lent, Settings};
+use demapper::Gain;
+use loopback::{Reception, Transmission, TripLent};
 use std::io::BufRead;
 
-// What a round trip is given beside the code and the message.
-#[derive(Clone, Copy)]
-struct Link {
-    base: u64,
-    amplitude: u32,
-    top: u32,
-    bottom: u32,
-    qc: u32,
-    qm: u32,
-    candidates: u32,
-}
-
-impl Link {
-    // Reads these numbers.
-    fn read<F: BufRead>(input: &mut Input<F>) -> Result<Link, BrokenRecord> {
-        Ok(Link {
-            base: input.number()?,
-            amplitude: input.number()?,
-            top: input.number()?,
-            bottom: input.number()?,
-            qc: input.number()?,
-            qm: input.number()?,
-            candidates: input.number()?,
+impl<F: BufRead> Input<F> {
+    // Reads a gain: its top and its bottom.
+    pub(crate) fn gain(&mut self) -> Result<Gain, BrokenRecord> {
+        Ok(Gain {
+            top: self.number()?,
+            bottom: self.number()?,
         })
     }
-}
 
-// What a round trip is lent to be written.
-#[derive(Drop)]
-struct Lent<'a> {
-    samples: &'a mut [i8],
-    frame: &'a mut [u16],
-    work: &'a mut [u16],
-    symbols: &'a mut [u8],
-    report: &'a mut [u16],
-    totals: &'a mut [u16],
-    decoded: &'a mut [u8],
-}
-
-impl Lent<'_> {
-    // The checksums of these slices.
-    fn checksums(&self) -> [u64; 7] {
-        [
-            checksum(self.samples),
-            checksum(self.frame),
-            checksum(self.work),
-            checksum(self.symbols),
-            checksum(self.report),
-            checksum(self.totals),
-            checksum(self.decoded),
-        ]
+    // Reads what the decoder's caller sets.
+    fn settings(&mut self) -> Result<Settings, BrokenRecord> {
+        Ok(Settings {
+            qc: self.number()?,
+            qm: self.number()?,
+            candidates: self.number()?,
+        })
     }
-}
-
-// `loopback::round_trip`.
-fn trip(code: Code<'_>, message: &[u8], link: Link, lent: &mut Lent<'_>) -> Answer {
-    Answer::from(loopback::round_trip(
-        code.n,
-        code.map,
-        code.coefs,
-        message,
-        link.base,
-        link.amplitude,
-        link.top,
-        link.bottom,
-        link.qc,
-        link.qm,
-        link.candidates,
-        lent.samples,
-        lent.frame,
-        lent.work,
-        lent.symbols,
-        lent.report,
-        lent.totals,
-        lent.decoded,
-    ))
 }
 
 impl<R: Print, F: BufRead> Run<'_, R, F> {
@@ -91,18 +35,20 @@ impl<R: Print, F: BufRead> Run<'_, R, F> {
         let mut report = [0u16; LONGEST];
         let mut totals = [0u16; PLACES];
         let code = self.input.code(&mut code)?;
-        let qc = self.input.number()?;
-        let qm = self.input.number()?;
-        let candidates = self.input.number()?;
+        let settings = self.input.settings()?;
         let frame = self.input.slice(&mut self.kept.frame)?;
         let work = self.input.slice(&mut work)?;
         let symbols = self.input.slice(&mut self.kept.symbols)?;
         let report = self.input.slice(&mut report)?;
         let totals = self.input.slice(&mut totals)?;
         self.input.end_record()?;
-        let answer = decoder::decode(
-            code.n, code.map, code.coefs, qc, qm, candidates, frame, work, symbols, report, totals,
-        );
+        let lent = Lent {
+            work: &mut *work,
+            symbols: &mut *symbols,
+            report: &mut *report,
+            totals: &mut *totals,
+        };
+        let answer = decoder::decode(&code, settings, frame, lent);
         let sums = [
             checksum(work),
             checksum(symbols),
@@ -120,7 +66,7 @@ impl<R: Print, F: BufRead> Run<'_, R, F> {
         let frame = self.input.slice(&mut self.kept.frame)?;
         let output = self.input.slice(&mut self.kept.text)?;
         self.input.end_record()?;
-        let answer = program_listing::decode_listing(code.n, code.map, code.coefs, frame, output);
+        let answer = program_listing::decode_listing(&code, frame, output);
         print_line(self.rt, Answer::from(answer), &[checksum(output)]);
         Ok(())
     }
@@ -132,21 +78,44 @@ impl<R: Print, F: BufRead> Run<'_, R, F> {
         let mut work = [0u16; LONGEST];
         let mut report = [0u16; LONGEST];
         let mut totals = [0u16; PLACES];
-        let code = self.input.code(&mut code)?;
-        let message = self.input.slice(&mut message)?;
-        let link = Link::read(&mut self.input)?;
-        let mut lent = Lent {
-            samples: self.input.slice(&mut self.kept.samples)?,
-            frame: self.input.slice(&mut self.kept.frame)?,
-            work: self.input.slice(&mut work)?,
-            symbols: self.input.slice(&mut self.kept.symbols)?,
-            report: self.input.slice(&mut report)?,
-            totals: self.input.slice(&mut totals)?,
-            decoded: self.input.slice(&mut self.kept.text)?,
+        let s = Transmission {
+            code: self.input.code(&mut code)?,
+            message: self.input.slice(&mut message)?,
+            base: self.input.number()?,
+            amplitude: self.input.number()?,
         };
+        let r = Reception {
+            gain: self.input.gain()?,
+            settings: self.input.settings()?,
+        };
+        let samples = self.input.slice(&mut self.kept.samples)?;
+        let frame = self.input.slice(&mut self.kept.frame)?;
+        let work = self.input.slice(&mut work)?;
+        let symbols = self.input.slice(&mut self.kept.symbols)?;
+        let report = self.input.slice(&mut report)?;
+        let totals = self.input.slice(&mut totals)?;
+        let decoded = self.input.slice(&mut self.kept.text)?;
         self.input.end_record()?;
-        let answer = trip(code, message, link, &mut lent);
-        print_line(self.rt, answer, &lent.checksums());
+        let lent = TripLent {
+            samples: &mut *samples,
+            frame: &mut *frame,
+            work: &mut *work,
+            symbols: &mut *symbols,
+            report: &mut *report,
+            totals: &mut *totals,
+            decoded: &mut *decoded,
+        };
+        let answer = loopback::round_trip(&s, r, lent);
+        let sums = [
+            checksum(samples),
+            checksum(frame),
+            checksum(work),
+            checksum(symbols),
+            checksum(report),
+            checksum(totals),
+            checksum(decoded),
+        ];
+        print_line(self.rt, Answer::from(answer), &sums);
         Ok(())
     }
 }

@@ -1,6 +1,7 @@
 // A run of the program, and the line of a record: numbers with a blank between them. The first is that of the answer.
 use crate::input::Input;
 use crate::slices::Buffers;
+use refusal::Refusal;
 use std::fmt;
 use std::fmt::Display;
 
@@ -14,9 +15,9 @@ pub(crate) struct Run<'a, R, F> {
     pub(crate) kept: Buffers,
 }
 
-// What a call answers: nothing more, a value, or the number of the refusal.
+// What a call answers: nothing more, a value, or a refusal.
 #[derive(Drop)]
-pub(crate) struct Answer(Result<Option<u64>, u8>);
+pub(crate) struct Answer(Result<Option<u64>, Refusal>);
 
 impl Display for Answer {
     // Writes 0 and the value, or the number of the refusal.
@@ -24,56 +25,36 @@ impl Display for Answer {
         match self.0 {
             Ok(None) => write!(f, "0"),
             Ok(Some(value)) => write!(f, "0 {value}"),
-            Err(refusal) => write!(f, "{refusal}"),
+            Err(refusal) => write!(f, "{}", u8::from(refusal)),
         }
     }
 }
 
-impl From<u8> for Answer {
-    // The answer of a call that says only whether it refuses, and by which number.
-    fn from(refusal: u8) -> Answer {
-        Answer(if refusal == 0 { Ok(None) } else { Err(refusal) })
+impl From<Result<(), Refusal>> for Answer {
+    // The answer of a call that says only whether it refuses, and why.
+    fn from(answer: Result<(), Refusal>) -> Answer {
+        Answer(answer.map(|_| None))
     }
 }
 
-impl From<decoder::Answer> for Answer {
-    // The answer of the decoder.
-    fn from(answer: decoder::Answer) -> Answer {
-        Answer(match answer {
-            decoder::Answer::Count(count) => Ok(Some(u64::from(count))),
-            decoder::Answer::Refused(refusal) => Err(refusal),
-        })
+impl From<Result<u32, Refusal>> for Answer {
+    // The answer of a call that counts.
+    fn from(answer: Result<u32, Refusal>) -> Answer {
+        Answer(answer.map(|count| Some(u64::from(count))))
     }
 }
 
-impl From<sheet::Answer> for Answer {
+impl From<Result<usize, Refusal>> for Answer {
     // The answer of the sheet reader.
-    fn from(answer: sheet::Answer) -> Answer {
-        Answer(match answer {
-            sheet::Answer::Layers(n) => Ok(Some(n as u64)),
-            sheet::Answer::Refused(refusal) => Err(refusal),
-        })
+    fn from(answer: Result<usize, Refusal>) -> Answer {
+        Answer(answer.map(|n| Some(n as u64)))
     }
 }
 
-impl From<distances::Answer> for Answer {
-    // The answer of a call on distances.
-    fn from(answer: distances::Answer) -> Answer {
-        Answer(match answer {
-            distances::Answer::Count(count) => Ok(Some(u64::from(count))),
-            distances::Answer::Refused(refusal) => Err(refusal),
-        })
-    }
-}
-
-impl From<distances::Holds> for Answer {
+impl From<Result<bool, Refusal>> for Answer {
     // The answer whether the premise holds.
-    fn from(holds: distances::Holds) -> Answer {
-        Answer(match holds {
-            distances::Holds::Yes => Ok(Some(1)),
-            distances::Holds::No => Ok(Some(0)),
-            distances::Holds::Refused(refusal) => Err(refusal),
-        })
+    fn from(answer: Result<bool, Refusal>) -> Answer {
+        Answer(answer.map(|holds| Some(u64::from(holds))))
     }
 }
 

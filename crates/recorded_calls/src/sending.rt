@@ -15,7 +15,7 @@ impl<R: Print, F: BufRead> Run<'_, R, F> {
         let message = self.input.slice(&mut message)?;
         let codeword = self.input.slice(&mut self.kept.symbols)?;
         self.input.end_record()?;
-        let answer = polar::encode(code.n, code.map, code.coefs, message, codeword);
+        let answer = polar::encode(&code, message, codeword);
         print_line(self.rt, Answer::from(answer), &[checksum(codeword)]);
         Ok(())
     }
@@ -54,12 +54,11 @@ impl<R: Print, F: BufRead> Run<'_, R, F> {
     pub(crate) fn demap(&mut self) -> Result<(), BrokenRecord> {
         let base = self.input.number()?;
         let samples = self.input.slice(&mut self.kept.samples)?;
-        let top = self.input.number()?;
-        let bottom = self.input.number()?;
+        let gain = self.input.gain()?;
         let qc = self.input.number()?;
         let llrs = self.input.slice(&mut self.kept.frame)?;
         self.input.end_record()?;
-        let answer = demapper::demap(base, samples, top, bottom, qc, llrs);
+        let answer = demapper::demap(base, samples, gain, qc, llrs);
         print_line(self.rt, Answer::from(answer), &[checksum(llrs)]);
         Ok(())
     }

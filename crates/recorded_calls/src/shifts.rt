@@ -39,10 +39,9 @@ impl<R: Print, F: BufRead> Run<'_, R, F> {
     pub(crate) fn premise_holds(&mut self) -> Result<(), BrokenRecord> {
         let base = self.input.number()?;
         let amplitude = self.input.number()?;
-        let top = self.input.number()?;
-        let bottom = self.input.number()?;
+        let gain = self.input.gain()?;
         self.input.end_record()?;
-        let answer = distances::premise_holds(base, amplitude, top, bottom);
+        let answer = distances::premise_holds(base, amplitude, gain);
         print_line(self.rt, Answer::from(answer), &[]);
         Ok(())
     }

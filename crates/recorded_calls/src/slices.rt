@@ -1,6 +1,7 @@
 // Slices of records, as parts of the buffers that they are kept in.
 use crate::entries::Entry;
 use crate::input::{BrokenRecord, Input};
+use polar_code::Code;
 use std::io::BufRead;
 
 // The entries of the buffers: of those with a byte for each place, of the coefficients, of a text, of those with a
@@ -53,14 +54,6 @@ impl CodeBuffers {
             coefs: [0; KERNELS],
         }
     }
-}
-
-// A code, as a record gives it.
-#[derive(Clone, Copy)]
-pub(crate) struct Code<'a> {
-    pub(crate) n: usize,
-    pub(crate) map: &'a [u8],
-    pub(crate) coefs: &'a [u8],
 }
 
 impl<F: BufRead> Input<F> {

@@ -12,7 +12,7 @@ impl<R: Print, F: BufRead> Run<'_, R, F> {
         let code = self.input.code(&mut code)?;
         let out = self.input.slice(&mut self.kept.text)?;
         self.input.end_record()?;
-        let answer = writer::write_sheet(code.n, code.map, code.coefs, out);
+        let answer = writer::write_sheet(&code, out);
         print_line(self.rt, Answer::from(answer), &[checksum(out)]);
         Ok(())
     }
