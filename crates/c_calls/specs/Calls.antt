@@ -1,16 +1,15 @@
 -- What `zithejo_decode` promises, and what the calls on a base do. The other calls promise what `encode` of polar,
 -- `demap` of demapper, and `write_sheet` and `write_frame_line` of writer do.
-use Rattle.std.specs.Prelude.{ℕ, ◌≡◌, List, [], ◌∷◌}
+use Rattle.std.specs.Prelude.{ℕ, ◌≡◌, List, [], ◌∷◌, Result}
 use Rattle.refusal.specs.Returned.{Returned}
+use Rattle.refusal.specs.Kinds.{returned, returned_flag}
+use Rattle.refusal.specs.declared.kinds.Refusal.{Refusal}
 use Rattle.polar_code.specs.Code.{Code}
 use Rattle.decoder_refusal.specs.Refusals.{Settings, Lent}
-use Rattle.decoder.specs.Decode.{returned, Decoded}
-use Rattle.decoder.specs.declared.decoder.Answer.{Answer}
-use Rattle.distances.specs.declared.distance.Answer.{Answer as Counted}
-use Rattle.distances.specs.declared.premise.Holds.{Holds}
-use Rattle.distances.specs.Distance as distance
-use Rattle.distances.specs.Shifts as shifts
-use Rattle.distances.specs.Premise as premise
+use Rattle.decoder.specs.Decode.{Decoded}
+use Rattle.distances.specs.Distance.{DistanceAnswered, LeastAnswered}
+use Rattle.distances.specs.Shifts.{ShiftsListed}
+use Rattle.distances.specs.Premise.{PremiseAnswered}
 
 -- what a lent number holds afterwards: the first of an answer's values, or where it has none what the number held
 unfoldable pub first_or : List ℕ → ℕ → ℕ
@@ -22,7 +21,7 @@ first_or (value ∷ values) before = value
 -- the answer's value, or as it came where the answer is a refusal
 pub record DecodeCalled (code : Code) (settings : Settings) (frame : List ℕ) (lent after : Lent)
     (count count_after r : ℕ) : Type 0 where
-  pub answer : Answer
+  pub answer : Result ℕ Refusal
   pub decoded : Decoded code settings frame lent after answer
   pub number_returned : r ≡ (returned answer).number
   pub count_is : count_after ≡ first_or (returned answer).values count
@@ -33,14 +32,6 @@ pub record Told (answer : Returned) (before after r : ℕ) : Type 0 where
   pub number_returned : r ≡ answer.number
   pub value_is : after ≡ first_or answer.values before
 
--- an answer of the calls on distances
-abbrev pub CountTold : Counted → (before after r : ℕ) → Type 0
-CountTold answer before after r = Told (distance.returned answer) before after r
-
--- and of that on the premise
-abbrev pub HoldsTold : Holds → (before after r : ℕ) → Type 0
-HoldsTold answer before after r = Told (premise.returned answer) before after r
-
 -- the promise, for every input: there is an answer of the call that is made, with all that this promises of it and of
 -- what it is lent; and that answer is told
 pub record Called {A : Type 0} (returned : A → Returned) (promise : A → Type 0) (before after r : ℕ) : Type 0 where
@@ -50,18 +41,18 @@ pub record Called {A : Type 0} (returned : A → Returned) (promise : A → Type
 
 -- `shift_distance`: it is the distance
 abbrev pub DistanceCalled : (base s : ℕ) → (distance after r : ℕ) → Type 0
-DistanceCalled base s before after r = Called distance.returned (distance.DistanceAnswered base s) before after r
+DistanceCalled base s before after r = Called returned (DistanceAnswered base s) before after r
 
 -- `least_distance`: the same
 abbrev pub LeastCalled : (base : ℕ) → (distance after r : ℕ) → Type 0
-LeastCalled base before after r = Called distance.returned (distance.LeastAnswered base) before after r
+LeastCalled base before after r = Called returned (LeastAnswered base) before after r
 
 -- `shifts_within`: it is the count of the shifts
 abbrev pub ShiftsCalled : (base d : ℕ) → (list list_after : List ℕ) → (count count_after r : ℕ) → Type 0
 ShiftsCalled base d list list_after before after r =
-    Called distance.returned (shifts.ShiftsListed base d list list_after) before after r
+    Called returned (ShiftsListed base d list list_after) before after r
 
 -- `premise_holds`: it is 1 for yes and 0 for no
 abbrev pub PremiseCalled : (base amplitude top bottom : ℕ) → (holds after r : ℕ) → Type 0
 PremiseCalled base amplitude top bottom before after r =
-    Called premise.returned (premise.PremiseAnswered base amplitude top bottom) before after r
+    Called returned_flag (PremiseAnswered base amplitude top bottom) before after r

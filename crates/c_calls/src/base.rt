@@ -1,44 +1,8 @@
 // The calls on a base: its chip distances, and whether the premise of the noiseless statement holds.
-ghost use Rattle.c_calls.specs.Calls.{
-  CountTold,
-  HoldsTold,
-  DistanceCalled,
-  LeastCalled,
-  ShiftsCalled,
-  PremiseCalled,
-};
+ghost use Rattle.c_calls.specs.Calls.{DistanceCalled, LeastCalled, ShiftsCalled, PremiseCalled};
 
-use distances::{Answer, Holds};
-
-// Puts what was counted into a lent number and returns 0; or returns the number of the refusal.
-fn tell_count(answer: Answer, value: &mut u32) -> u8
-    ensures { CountTold answer value.old value.new result }
-{
-    match answer {
-        Answer::Count(count) => {
-            *value = count;
-            0
-        }
-        Answer::Refused(number) => number,
-    }
-}
-
-// Puts 1 for yes or 0 for no into a lent number and returns 0; or returns the number of the refusal.
-fn tell_holds(answer: Holds, value: &mut u32) -> u8
-    ensures { HoldsTold answer value.old value.new result }
-{
-    match answer {
-        Holds::Yes => {
-            *value = 1;
-            0
-        }
-        Holds::No => {
-            *value = 0;
-            0
-        }
-        Holds::Refused(number) => number,
-    }
-}
+use crate::tell::tell;
+use demapper::Gain;
 
 // The distance of a shift, as `distances::shift_distance`: in how many chips shift s of the base, s counted mod 64,
 // differs from shift 0. Returns 0, with the distance in the number lent for it; or 10, and leaves it as it came.
@@ -46,7 +10,7 @@ fn tell_holds(answer: Holds, value: &mut u32) -> u8
 pub extern "C" fn zithejo_shift_distance(base: u64, s: u64, distance: &mut u32) -> u8
     ensures { DistanceCalled base s distance.old distance.new result }
 {
-    tell_count(distances::shift_distance(base, s), distance)
+    tell(distances::shift_distance(base, s), distance)
 }
 
 // The least distance of the shifts 1 to 63, as `distances::least_distance`. Returns 0, with the distance in the number
@@ -55,7 +19,7 @@ pub extern "C" fn zithejo_shift_distance(base: u64, s: u64, distance: &mut u32) 
 pub extern "C" fn zithejo_least_distance(base: u64, distance: &mut u32) -> u8
     ensures { LeastCalled base distance.old distance.new result }
 {
-    tell_count(distances::least_distance(base), distance)
+    tell(distances::least_distance(base), distance)
 }
 
 // Lists the shifts from 1 to 63 within d chips, as `distances::shifts_within`. Returns 0, with the shifts in rising
@@ -66,7 +30,7 @@ pub extern "C" fn zithejo_shifts_within(base: u64, d: u32, shifts: &mut [u8], co
     ensures { ShiftsCalled base d shifts.old shifts.new count.old
         count.new result }
 {
-    tell_count(distances::shifts_within(base, d, shifts), count)
+    tell(distances::shifts_within(base, d, shifts), count)
 }
 
 // Whether the premise of the noiseless statement holds, as `distances::premise_holds`. Returns 0, with 1 for yes or 0
@@ -81,8 +45,6 @@ pub extern "C" fn zithejo_premise_holds(
 ) -> u8
     ensures { PremiseCalled base amplitude top bottom holds.old holds.new result }
 {
-    tell_holds(
-        distances::premise_holds(base, amplitude, top, bottom),
-        holds,
-    )
+    let answer = distances::premise_holds(base, amplitude, Gain { top, bottom });
+    tell(answer.map(u32::from), holds)
 }

@@ -2,10 +2,11 @@
 // on gets the number of a refusal. A slice is two arguments in C, a pointer to its first element and the number of
 // elements. What no proof can see to is the caller's: each pointer must be valid for its number of elements, that of a
 // number for one, and what is lent to be written must not overlap anything else that is lent. Those on a base stand in
-// base.rt.
+// base.rt; how an answer with a number is told in C, in tell.rt.
 #![tactic(auto)]
 
 mod base;
+mod tell;
 
 ghost use Rattle.polar_code.specs.Code.{code_of};
 ghost use Rattle.decoder_refusal.specs.Refusals.{settings_of, lent_of};
@@ -15,7 +16,11 @@ ghost use Rattle.writer.specs.CodeSheet.{SheetWritten};
 ghost use Rattle.writer.specs.FrameLine.{LineWritten};
 ghost use Rattle.c_calls.specs.Calls.{DecodeCalled};
 
-use decoder::Answer;
+use crate::tell::tell;
+use decoder_refusal::{Lent, Settings};
+use demapper::Gain;
+use polar_code::Code;
+use refusal::status;
 
 // Encodes a message, as `polar::encode`. Returns 0, with the codeword in the buffer lent for it; or the lowest refusal
 // of 1, 2, 4, 5, 6 and 7 that fits, and leaves the buffer as it came.
@@ -30,7 +35,7 @@ pub extern "C" fn zithejo_encode(
     ensures { Encoded (code_of n map.now coefs.now) message.now
         codeword.old codeword.new result }
 {
-    polar::encode(n, map, coefs, message, codeword)
+    status(polar::encode(&Code { n, map, coefs }, message, codeword))
 }
 
 // Weighs samples into penalties, as `demapper::demap`; a sample of -128 is a lost one and adds nothing. Returns 0, with
@@ -47,7 +52,7 @@ pub extern "C" fn zithejo_demap(
 ) -> u8
     ensures { Demapped base top bottom qc samples.now llrs.old llrs.new result }
 {
-    demapper::demap(base, samples, top, bottom, qc, llrs)
+    status(demapper::demap(base, samples, Gain { top, bottom }, qc, llrs))
 }
 
 // Decodes a frame, as `decoder::decode`: a check node tries as many values as `candidates` says, 1 to 64, of which 64
@@ -75,16 +80,15 @@ pub extern "C" fn zithejo_decode(
         (lent_of work.new symbols.new report.new totals.new)
         count.old count.new result }
 {
-    let answer = decoder::decode(
-        n, map, coefs, qc, qm, candidates, frame, work, symbols, report, totals,
-    );
-    match answer {
-        Answer::Count(clipped) => {
-            *count = clipped;
-            0
-        }
-        Answer::Refused(number) => number,
-    }
+    let code = Code { n, map, coefs };
+    let settings = Settings { qc, qm, candidates };
+    let lent = Lent {
+        work,
+        symbols,
+        report,
+        totals,
+    };
+    tell(decoder::decode(&code, settings, frame, lent), count)
 }
 
 // Writes the sheet of a code, the file code.txt of the program, as `writer::write_sheet`. Returns 0, with the sheet in
@@ -95,7 +99,7 @@ pub extern "C" fn zithejo_write_sheet(n: usize, map: &[u8], coefs: &[u8], out: &
     ensures { SheetWritten (code_of n map.now coefs.now) out.old
         out.new result }
 {
-    writer::write_sheet(n, map, coefs, out)
+    status(writer::write_sheet(&Code { n, map, coefs }, out))
 }
 
 // Writes one place's 64 penalties as a line of a frame file, as `writer::write_frame_line`; the lines of all places,
@@ -105,5 +109,5 @@ pub extern "C" fn zithejo_write_sheet(n: usize, map: &[u8], coefs: &[u8], out: &
 pub extern "C" fn zithejo_write_frame_line(llrs: &[u16], line: &mut [u8]) -> u8
     ensures { LineWritten llrs.now line.old line.new result }
 {
-    writer::write_frame_line(llrs, line)
+    status(writer::write_frame_line(llrs, line))
 }
