@@ -9,6 +9,8 @@ use native.Mathlib.Numerals.{add-one}
 use native.Mathlib.Omega.{arith}
 use lib.ListN.{length, get_or, take, drop, set, length-append, length-drop, length-set}
 use lib.Seq.{take_all, drop_at, take-append-le, drop-append-le, ext_get_or, get_or-set_same, get_or-set_other}
+use Rattle.std.specs.List.{fold}
+use Rattle.std.proofs.lemmas.List.Sums.{fold_more}
 use Rattle.vector.specs.Vector.{tabulate, joined, sum_to, least_to, least, less_least}
 
 module _ {A : Type 0} where
@@ -244,6 +246,19 @@ least_next (suc k) m f e =
 -- the same from the second number on
 pub least_more : (b m : ℕ) (f : ℕ → ℕ) → 1 ≤ b → m ≡ least_to (b - 1) f → (f b < m → f b ≡ least_to (b + 1 - 1) f) × (m ≤ f b → m ≡ least_to (b + 1 - 1) f)
 least_more b m f l e = least_next b m f e
+
+-- the least of the first entries by a fold that begins with the first
+least_front : (v : List ℕ) (k : ℕ) → k < length v → fold min (get_or v 0 0) (take (k + 1) v) ≡ least_to k (λ b. get_or v b 0)
+unfolding least_to
+least_front v zero l = fold_more min (get_or v 0 0) v 0 0 l ∙ min-eq_left (le_refl (get_or v 0 0))
+least_front v (suc k) l =
+    fold_more min (get_or v 0 0) v (suc k) 0 l
+    ∙ ap (λ (m : ℕ). min m (get_or v (suc k) 0)) (ap (λ (n : ℕ). fold min (get_or v 0 0) (take n v)) (sym (add-one k)) ∙ least_front v k (omega arith))
+
+-- so of all 64
+pub least_fold : (v : List ℕ) → length v ≡ 64 → fold min (get_or v 0 0) v ≡ least v
+unfolding least
+least_fold v e = ap (fold min (get_or v 0 0)) (sym (take_all 64 v (le_of_eq e))) ∙ least_front v 63 (omega arith)
 
 -- no entry of a vector is below its least
 pub least_le : (v : List ℕ) (b : ℕ) → b < 64 → least v ≤ get_or v b 0

@@ -6,3 +6,4 @@ pub mod PartLaws
 pub mod All
 pub mod Entries
 pub mod LentParts
+pub mod Arrays

@@ -9,21 +9,13 @@ ghost use Rattle.vector.specs.Vector.{least, less_least, stored};
 ghost use Rattle.vector.specs.Frame.{largest};
 
 pub use part::place_llrs;
+use std::array;
 
 // The least of the 64 entries.
 pub fn least_of(v: &[u16; 64]) -> u16
     ensures { result ≡ least v.now }
 {
-    let mut m = v[0];
-    let mut b: usize = 0;
-    while b < 64 {
-        let x = v[b];
-        if x < m {
-            m = x;
-        }
-        b += 1;
-    }
-    m
+    v.iter().fold(v[0], |m, x| m.min(*x))
 }
 
 // A vector less its least entry, and what was taken off.
@@ -38,16 +30,12 @@ pub fn subtract_least(v: &[u16; 64]) -> Lowered
     ensures { (result.rest ≡ less_least v.now) × (result.taken ≡ least v.now) }
 {
     let taken = least_of(v);
-    let mut rest = [0u16; 64];
-    let mut b: usize = 0;
-    while b < 64 {
-        rest[b] = v[b] - taken;
-        b += 1;
-    }
+    let rest = array::from_fn(|b| v[b] - taken);
     Lowered { rest, taken }
 }
 
 // Writes v as vector i of a slice. Where the slice has no such vector, nothing is written.
+#[tactic(auto, using(crate::proofs::SliceLaws::stored_none, crate::proofs::SliceLaws::stored_put))]
 pub fn store(v: &[u16; 64], i: usize, s: &mut [u16])
     ensures { s.new ≡ stored s.old i v.now }
 {
@@ -55,19 +43,13 @@ pub fn store(v: &[u16; 64], i: usize, s: &mut [u16])
         return;
     }
     let at = 64 * i;
-    let mut c: usize = 0;
-    while c < 64 {
-        s[at + c] = v[c];
-        c += 1;
-    }
+    s[at..at + 64].copy_from_slice(v);
 }
 
 // The largest penalty of a precision of q bits, 2^q - 1; of 13 bits where q is more.
+#[tactic(auto, using(crate::proofs::FrameLaws::power_most), unfolding(crate::specs::Frame::largest))]
 pub fn largest(q: u32) -> u16
     ensures { result ≡ largest q }
 {
-    if 13 < q {
-        return 8191;
-    }
-    (1 << q) - 1
+    (1 << q.min(13)) - 1
 }
