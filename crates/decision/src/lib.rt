@@ -12,18 +12,12 @@ fn smallest(v: &[u16; 64]) -> u8
     ensures { result ≡ smallest v.now }
 {
     let least = vector::least_of(v);
-    let mut b: usize = 0;
-    while b < 63 {
-        if v[b] == least {
-            return b as u8;
-        }
-        b += 1;
-    }
-    63
+    (0..63).find(|b| v[usize::from(*b)] == least).unwrap_or(63)
 }
 
 // The symbol of a place with this map byte: a message place takes the smallest value whose penalty is least, a frozen
 // place the symbol that it always holds.
+#[tactic(auto, unfolding(scms::specs::Decision::decision))]
 pub fn decide(byte: u8, v: [u16; 64]) -> u8
     ensures { result ≡ decision (kind_of byte) v }
 {
