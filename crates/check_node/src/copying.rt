@@ -3,7 +3,9 @@ ghost use Rattle.check_node.specs.Steps.{AreCopies};
 
 use reorder::swapped;
 
-// Eight copies of a vector, one after the other: copy k has the entries i and i + k (the field's sum) exchanged.
+// Eight copies of a vector, one after the other: copy k has the entries i and i + k (the field's sum) exchanged. It is
+// laid out where it is called: each k is then a constant, and an exchange a few instructions.
+#[inline(always)]
 pub fn copies(v: &[u16; 64]) -> [u16; 512]
     ensures { AreCopies 8 v.now result }
 {

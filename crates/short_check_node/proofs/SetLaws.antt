@@ -17,6 +17,12 @@ unfolding at_least_one
 asked_least zero = refl
 asked_least (suc m) = omega arith
 
+-- so it is the number itself where one at least is asked for
+pub asked_some : (m : ℕ) → 1 ≤ m → m ≡ at_least_one m
+unfolding at_least_one
+asked_some zero l = absurd (omega arith)
+asked_some (suc m) l = refl
+
 -- from 1 to 64 where fewer than 64 are asked for
 pub asked_most : (m : ℕ) → m < 64 → (1 ≤ at_least_one m) × (at_least_one m ≤ 64)
 unfolding at_least_one

@@ -5,6 +5,8 @@ ghost use Rattle.reorder.specs.Order.{swapped};
 use reorder::{replace_part, swapped};
 
 // A vector with its entries i and i + run (the field's sum) exchanged where a bit is 1, and as it is where it is 0.
+// It is laid out where it is called: the run is then a constant, and the exchange a few instructions.
+#[inline(always)]
 #[tactic(auto, using(crate::proofs::TranslateLaws::swapped_one, crate::proofs::TranslateLaws::swapped_zero))]
 fn swapped_where(bit: usize, v: &[u16; 64], run: usize) -> [u16; 64]
     requires { (bit < 2) × (run < 8) }

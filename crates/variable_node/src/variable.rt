@@ -23,8 +23,8 @@ fn sums(theta: &[u16; 64], ordered: &[u16; 64], u: u8) -> [u16; 64]
 // 64 penalties after the clip, and how many exceeded the cap before it.
 #[derive(Drop)]
 struct Clipped {
-    pub llrs: [u16; 64],
-    pub count: u32,
+    llrs: [u16; 64],
+    count: u32,
 }
 
 // Clips each of 64 penalties to the cap, and counts those that exceed it.
@@ -32,10 +32,11 @@ fn clip_llrs(cap: u16, v: &[u16; 64]) -> Clipped
     ensures { (result.llrs ≡ clipped cap v.now)
         × (result.count ≡ exceeding cap v.now) × (result.count ≤ 64) }
 {
-    let llrs = array::from_fn(|c| v[c].min(cap));
+    let mut llrs = *v;
     let mut count: u16 = 0;
-    for x in v {
+    for x in llrs.iter_mut() {
         count += u16::from(cap < *x);
+        *x = (*x).min(cap);
     }
     let count = u32::from(count);
     Clipped { llrs, count }

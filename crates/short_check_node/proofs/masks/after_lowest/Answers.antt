@@ -1,11 +1,11 @@
 -- `after_lowest`: the smallest value that is left is taken in a turn.
-use Rattle.std.proofs.Common.{◌≡◌, ℕ, subst, arith}
+use Rattle.std.proofs.Common.{◌≡◌, ℕ, subst, arith, rules}
 use Rattle.short_check_node.specs.Masks.{Cut}
 use Rattle.short_check_node.proofs.CutLaws.{cut_none, cut_more_left, cut_more}
 use Rattle.short_check_node.proofs.masks.after_lowest.Goals as goal
 
 pub loop-init : goal.loop-init
-loop-init c = λ f h e l. cut_none f _ e
+loop-init c = λ f h e l. let none : Cut f 0 c.args.mask = cut_none f c.args.mask e in search rules
 
 pub overflow_sub-rest : goal.overflow_sub-rest
 overflow_sub-rest c =

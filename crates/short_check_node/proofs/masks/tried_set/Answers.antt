@@ -1,4 +1,5 @@
 -- `tried_set`: the equal ones from some value on are left out.
+use Rattle.std.proofs.Common.{rules}
 use Rattle.short_check_node.proofs.SetLaws.{same_mask, has_same, same_cut, tried_set}
 use Rattle.short_check_node.proofs.masks.tried_set.Goals as goal
 
@@ -16,4 +17,5 @@ returns c =
     let v = a.ordered.now in
     let few = c.count_below-few.ensures in
     let same = same_mask v a.t _ _ c.mask_below-upto.ensures c.mask_below-below.ensures in
-    tried_set a.m v a.t _ _ _ c.requires few c.mask_below-upto.ensures (same_cut a.m v a.t _ _ _ c.requires few same.1 c.after_lowest-left.ensures)
+    let made = tried_set a.m v a.t _ _ _ c.requires few c.mask_below-upto.ensures (same_cut a.m v a.t _ _ _ c.requires few same.1 c.after_lowest-left.ensures) in
+    search rules
