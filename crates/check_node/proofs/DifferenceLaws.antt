@@ -1,9 +1,8 @@
 -- The laws of the order of the steps of a check node, and of the differences of penalties in that order.
-use Rattle.std.proofs.Common.{◌≡◌, ℕ, ◌+◌, ◌-◌, ◌%◌, ◌<◌, ◌≤◌, List, length, get_or, sym, ap, ◌∙◌, subst, arith}
+use Rattle.std.proofs.Common.{◌≡◌, ℕ, ◌+◌, ◌-◌, ◌%◌, ◌<◌, ◌≤◌, List, get_or, sym, ap, ◌∙◌, subst, arith}
 use native.Mathlib.Decide.{dec_lt}
-use Rattle.vector.specs.Vector.{AtMost}
 use Rattle.gf64.specs.Field.{◌⊕◌}
-use Rattle.vector.proofs.Laws.{length_tabulate, get_d_tabulate, tabulate_by}
+use Rattle.vector.proofs.Laws.{get_d_tabulate, tabulate_by}
 use Rattle.reorder.specs.Order.{Small, Mapped}
 use Rattle.reorder.proofs.SwapLaws.{source_plain}
 use Rattle.check_node.specs.Steps.{by_columns, penalties_before, differences}
@@ -40,37 +39,6 @@ before_all {ordered} {first} {r} f g = tabulate_by 0 64 _ r g.long (λ c l. go c
     go c l (yes m) (no p) =
         let none : 0 ≡ c = omega arith in
         subst (λ (k : ℕ). get_or r k 0 ≡ get_or ordered (by_columns (by_columns k - 1)) 0) none (g.earlier 0 (omega arith) ∙ f.earlier 0 (omega arith))
-
--- they are penalties
-before_most : (ordered : List ℕ) → Small ordered → AtMost 8191 (penalties_before ordered)
-unfolding penalties_before
-before_most ordered s c l =
-    let e = get_d_tabulate 0 64 (λ k. get_or ordered (by_columns (by_columns k - 1)) 0) c l in
-    let k = columns_lt c l in
-    let m = s.most (by_columns (by_columns c - 1)) (columns_lt (by_columns c - 1) (omega arith)) in
-    omega arith
-
--- a difference in 16 bits, from what it adds up to
-difference_is : (a b r : ℕ) → a ≤ 8191 → b ≤ 8191 → r < 65536 → (r + b) % 65536 ≡ a → r ≡ (a + 65536 - b) % 65536
-difference_is a b r la lb lr e = omega arith
-
--- an entry of the differences; y are the penalties before
-pub difference_made : (ordered y : List ℕ) (c r : ℕ) → Small ordered → y ≡ penalties_before ordered → c < 64 → r < 65536 → (r + get_or ordered c 0) % 65536 ≡ get_or y c 0
-    → r ≡ (get_or (penalties_before ordered) c 0 + 65536 - get_or ordered c 0) % 65536
-difference_made ordered y c r s e l lr h =
-    difference_is (get_or (penalties_before ordered) c 0) (get_or ordered c 0) r (before_most ordered s c l) (s.most c l) lr (h ∙ ap (λ (v : List ℕ). get_or v c 0) e)
-
--- there are 64 differences
-pub differences_long : (ordered : List ℕ) → length (differences ordered) ≡ 64
-unfolding differences
-differences_long ordered = length_tabulate 64 (λ k. (get_or (penalties_before ordered) k 0 + 65536 - get_or ordered k 0) % 65536)
-
--- differences are numbers of 16 bits
-pub differences_most : (ordered : List ℕ) → AtMost 65535 (differences ordered)
-unfolding differences
-differences_most ordered c l =
-    let e = get_d_tabulate 0 64 (λ k. (get_or (penalties_before ordered) k 0 + 65536 - get_or ordered k 0) % 65536) c l in
-    omega arith
 
 -- the difference at a step leads back to the penalty of the step before, at the first step to its own
 pub difference_at : (ordered : List ℕ) → Small ordered → (k : ℕ) → k < 64 → (get_or (differences ordered) (by_columns k) 0 + get_or ordered (by_columns k) 0) % 65536 ≡ get_or ordered (by_columns (k - 1)) 0

@@ -3,7 +3,7 @@
 -- that it is at: then a step is one addition and one minimum. That can be below 0: it is a number of 16 bits, which
 -- wraps around, and two such are compared as signed numbers.
 use Rattle.std.specs.Prelude.{◌≡◌, ℕ, zero, suc, ◌+◌, ◌-◌, ◌*◌, ◌/◌, ◌%◌, ◌<◌, cond, List, length, nat_lt, slice_index}
-use Rattle.vector.specs.Vector.{tabulate, vector_at, least_to, AtMost}
+use Rattle.vector.specs.Vector.{tabulate, vector_at, least_to}
 use Rattle.gf64.specs.Field.{◌⊕◌}
 use Rattle.scms.specs.Nodes.{sum_at}
 use Rattle.reorder.specs.Order.{swapped}
@@ -11,10 +11,6 @@ use Rattle.reorder.specs.Order.{swapped}
 -- a number of 16 bits: it wraps around
 abbrev pub wrapped : ℕ → ℕ
 wrapped a = a % 65536
-
--- numbers of 16 bits
-abbrev pub Words : List ℕ → Type 0
-Words d = AtMost 65535 d
 
 -- the value of step k; the step of value c is by_columns c too
 unfoldable pub by_columns : ℕ → ℕ
@@ -48,6 +44,15 @@ step held d w = signed_min (wrapped (held + d)) w
 -- four steps, by the differences d0, d1, d2, d3, to values which give w0, w1, w2, w3
 unfoldable pub four_steps : (d0 d1 d2 d3 w0 w1 w2 w3 held : ℕ) → ℕ
 four_steps d0 d1 d2 d3 w0 w1 w2 w3 held = step (step (step (step held d0 w0) d1 w1) d2 w2) d3 w3
+
+-- the entries at `at`, 8 further and so on, the first `count` of them, after four steps by the differences d: block k's is
+-- compared with the four numbers w in the order k, k ⊕ 1, k ⊕ 2, k ⊕ 3. All other entries are as they were
+pub record LaneMapped (d w : List ℕ) (at count : ℕ) (before after : List ℕ) : Type 0 where
+  pub long : length after ≡ 64
+  pub done : (k : ℕ) → k < count → slice_index after (at + 8 * k)
+      ≡ four_steps (slice_index d 0) (slice_index d 1) (slice_index d 2) (slice_index d 3)
+      (slice_index w k) (slice_index w (k ⊕ 1)) (slice_index w (k ⊕ 2)) (slice_index w (k ⊕ 3)) (slice_index before (at + 8 * k))
+  pub other : (b : ℕ) → ((k : ℕ) → k < count → b ≡ at + 8 * k → ⊥) → slice_index after b ≡ slice_index before b
 
 -- where the copies have what the eight values of a block are compared with at step 4 q + j
 unfoldable pub source_of : (q j block : ℕ) → ℕ

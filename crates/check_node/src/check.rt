@@ -13,5 +13,5 @@ pub fn check_node(theta: &[u16; 64], ordered: &[u16; 64]) -> [u16; 64]
 {
     let low_theta = low_bits(theta);
     let low_ordered = low_bits(ordered);
-    least_sums(low_theta, &low_ordered)
+    least_sums(&low_theta, &low_ordered)
 }

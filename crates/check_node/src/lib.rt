@@ -9,3 +9,4 @@ mod steps;
 
 pub use check::check_node;
 pub use copying::copies;
+pub use steps::signed_min;

@@ -1,7 +1,8 @@
 -- The laws of the product, each for all numbers or all symbols.
 use mathlib.Core.Path.{◌≡◌, refl, sym, ap, ap₂, ◌∙◌, subst}
-use Prim.Native.Nat.{ℕ, zero, suc, ◌+◌, ◌*◌, ◌/◌, ◌%◌, ◌<◌}
-use native.Mathlib.Nat.{mod-lt, mod-eq_of_lt, zero-lt-suc, zero-mul, one-mul, zero-add, suc-add}
+use Prim.Native.Nat.{ℕ, zero, suc, ◌+◌, ◌*◌, ◌/◌, ◌%◌, ◌-◌, ◌^◌, ◌<◌}
+use native.Mathlib.Nat.{mod-lt, mod-eq_of_lt, zero-lt-suc, zero-mul, one-mul, zero-add, suc-add, pow-suc, div-div-eq-div-mul}
+use native.Mathlib.Numerals.{add-one}
 use native.Mathlib.Omega.{arith}
 use lib.Bits.{xor_mod}
 use lib.Dec.{lit<}
@@ -85,9 +86,30 @@ bits_lt zero x y h = lit< tt
 bits_lt (suc k) x y h = sum_lt (times_a (product_bits k (x / 2) y)) (x % 2 * y) (a_lt (product_bits k (x / 2) y) (bits_lt k (x / 2) y h)) (bit_lt (x % 2) y (last_bit x) h)
 
 -- a partial product with one bit more of the first factor, from what the bits above it gave
-pub bits_more : (k x y : ℕ) {above r : ℕ} → above ≡ product_bits k (x / 2) y → r ≡ times_a above ⊕ (x % 2 * y) → r ≡ product_bits (suc k) x y
+bits_more : (k x y : ℕ) {above r : ℕ} → above ≡ product_bits k (x / 2) y → r ≡ times_a above ⊕ (x % 2 * y) → r ≡ product_bits (suc k) x y
 unfolding product_bits
 bits_more k x y p e = e ∙ ap (λ (q : ℕ). times_a q ⊕ (x % 2 * y)) p
+
+-- the bits of x from bit i on, halved, are those from the next bit on
+bits_above : (x i : ℕ) → i < 6 → x / 2 ^ (5 - i) / 2 ≡ x / 2 ^ (6 - i)
+bits_above x i l =
+    let e : 6 - i ≡ suc (5 - i) = omega arith in
+    div-div-eq-div-mul x (2 ^ (5 - i)) 2 ∙ ap (λ (p : ℕ). x / p) (sym (pow-suc 2 (5 - i)) ∙ ap (λ (k : ℕ). 2 ^ k) (sym e))
+
+-- a product with its i highest bits done, and one bit more
+pub bits_next : (x y i above r : ℕ) → i < 6 → above ≡ product_bits i (x / 2 ^ (6 - i)) y → r ≡ times_a above ⊕ (x / 2 ^ (5 - i) % 2 * y)
+    → r ≡ product_bits (i + 1) (x / 2 ^ (6 - (i + 1))) y
+bits_next x y i above r l p e =
+    let n : 5 - i ≡ 6 - (i + 1) = omega arith in
+    bits_more i (x / 2 ^ (5 - i)) y (p ∙ ap (λ (k : ℕ). product_bits i k y) (sym (bits_above x i l))) e
+    ∙ ap₂ (λ (k m : ℕ). product_bits k (x / 2 ^ m) y) (sym (add-one i)) n
+
+-- the product, from all its six bits
+pub bits_all : (x y i r : ℕ) → i ≡ 6 → r ≡ product_bits i (x % 64 / 2 ^ (6 - i)) (y % 64) → r ≡ x ⊙ y
+unfolding ◌⊙◌ low_six
+bits_all x y i r n e =
+    let one : x % 64 / 1 ≡ x % 64 = omega arith in
+    e ∙ ap (λ (k : ℕ). product_bits k (x % 64 / 2 ^ (6 - k)) (y % 64)) n ∙ ap (λ (k : ℕ). product_bits 6 k (y % 64)) one
 
 -- ---- closed, commutative
 

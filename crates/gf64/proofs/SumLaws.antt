@@ -57,6 +57,11 @@ pub sum_lt : (x y : ℕ) → x < 64 → y < 64 → x ⊕ y < 64
 unfolding ◌⊕◌
 sum_lt x y hx hy = xor_lt 6 x y hx hy
 
+-- the same of the exclusive or as the code has it
+pub sum_symbol : (x y : ℕ) → x < 64 → y < 64 → bit_xor x y < 64 × (bit_xor x y ≡ x ⊕ y)
+unfolding ◌⊕◌
+sum_symbol x y hx hy = (sum_lt x y hx hy, refl)
+
 -- associative
 pub sum_assoc : (x y z : ℕ) → (x ⊕ y) ⊕ z ≡ x ⊕ (y ⊕ z)
 unfolding ◌⊕◌

@@ -5,11 +5,13 @@ ghost use Rattle.std.specs.Prelude.{◌≡◌};
 ghost use Rattle.gf64.specs.Field.{IsProduct};
 ghost use Rattle.gf64.specs.ProductTable.{product_table, entry_of, symbols_of};
 
+use std::array;
+
 // A table of 64 rows of 64 entries.
 pub type Products = [[u8; 64]; 64];
 
 // Entry y of row x is the product of the symbols x and y.
-const PRODUCTS: [[u8; 64]; 64] = [
+const PRODUCTS: Products = [
     [
         0, 0, 0, 0, 0, 0, 0, 0, 0, 0, 0, 0, 0, 0, 0, 0, 0, 0, 0, 0, 0, 0, 0, 0, 0, 0, 0, 0, 0, 0,
         0, 0, 0, 0, 0, 0, 0, 0, 0, 0, 0, 0, 0, 0, 0, 0, 0, 0, 0, 0, 0, 0, 0, 0, 0, 0, 0, 0, 0, 0,
@@ -341,10 +343,11 @@ pub fn products() -> Products
 
 // The product of two symbols, read from a table that is lent: what stands there in row x at y. Of a factor above 63
 // the six low bits count.
+#[tactic(auto, unfolding(crate::specs::ProductTable::entry_of, crate::specs::ProductTable::row_of, crate::specs::Field::low_six))]
 pub fn product_from(table: &Products, x: u8, y: u8) -> u8
     ensures { result ≡ entry_of table.now x y }
 {
-    table[(x % 64) as usize][(y % 64) as usize]
+    table[usize::from(x % 64)][usize::from(y % 64)]
 }
 
 // The products of a symbol with all 64, read from a table that is lent: its row x, of each entry the six low bits, so
@@ -352,18 +355,13 @@ pub fn product_from(table: &Products, x: u8, y: u8) -> u8
 pub fn row_from(table: &Products, x: u8) -> [u8; 64]
     ensures { result ≡ symbols_of table.now x }
 {
-    let row = (x % 64) as usize;
-    let mut r = [0u8; 64];
-    let mut y: usize = 0;
-    while y < 64 {
-        r[y] = table[row][y] % 64;
-        y += 1;
-    }
-    r
+    let row = &table[usize::from(x % 64)];
+    array::from_fn(|y| row[y] % 64)
 }
 
 // The product of two symbols, read from the table. Of a factor above 63 the six low bits count, so every pair of bytes
 // has a product, and it is a symbol.
+#[tactic(auto, using(crate::proofs::ProductTableLaws::entry_product, crate::proofs::ProductLaws::product_lt))]
 pub fn product(x: u8, y: u8) -> u8
     ensures { IsProduct x y result }
 {

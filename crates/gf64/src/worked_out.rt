@@ -3,6 +3,7 @@ ghost use Rattle.std.specs.Prelude.{◌≡◌, ◌*◌, ◌<◌};
 ghost use Rattle.gf64.specs.Field.{◌⊕◌, times_a, IsProduct};
 
 // a times a symbol: each coefficient moves up by one, and an a^6 becomes a + 1.
+#[tactic(auto, using(crate::proofs::SumLaws::sum_symbol), unfolding(crate::specs::Field::times_a))]
 fn times_a(x: u8) -> u8
     requires { x < 64 }
     ensures { (result ≡ times_a x) × (result < 64) }
@@ -12,6 +13,7 @@ fn times_a(x: u8) -> u8
 
 // The product with one bit more of the first factor: a times the product of the bits above it, plus y where the bit is
 // set.
+#[tactic(auto, using(crate::proofs::SumLaws::sum_symbol, crate::proofs::ProductLaws::bit_lt))]
 fn with_bit(above: u8, bit: u8, y: u8) -> u8
     requires { (above < 64) × (bit < 2) × (y < 64) }
     ensures { (result ≡ times_a above ⊕ (bit * y)) × (result < 64) }
@@ -24,17 +26,11 @@ fn with_bit(above: u8, bit: u8, y: u8) -> u8
 pub fn worked_out_product(x: u8, y: u8) -> u8
     ensures { IsProduct x y result }
 {
-    let y0 = y % 64;
     let x0 = x % 64;
-    let x1 = x0 / 2;
-    let x2 = x1 / 2;
-    let x3 = x2 / 2;
-    let x4 = x3 / 2;
-    let x5 = x4 / 2;
-    let p5 = with_bit(0, x5 % 2, y0);
-    let p4 = with_bit(p5, x4 % 2, y0);
-    let p3 = with_bit(p4, x3 % 2, y0);
-    let p2 = with_bit(p3, x2 % 2, y0);
-    let p1 = with_bit(p2, x1 % 2, y0);
-    with_bit(p1, x0 % 2, y0)
+    let y0 = y % 64;
+    let mut above = 0;
+    for i in 0..6u32 {
+        above = with_bit(above, (x0 >> (5 - i)) % 2, y0);
+    }
+    above
 }

@@ -9,21 +9,19 @@ ghost use Rattle.phi_order.specs.Order.{ordered_by};
 
 use gf64::Products;
 use reorder::LLRS;
-
-// The entries of a vector that 64 products name, of each the thirteen low bits; four at a time.
+// The entries of a vector that 64 products name, of each the thirteen low bits. The
+// inner loop has four turns, which the compiler lays out.
 fn gathered(v: &[u16; 64], products: &[u8; 64]) -> [u16; 64]
     requires { (k : ℕ) → k < 64 → get_or products.now k 0 < 64 }
     ensures { result ≡ tabulate 64 (λ k.
         get_or v.now (get_or products.now k 0) 0 % (largest_llr + 1)) }
 {
     let mut r = [0u16; 64];
-    let mut k: usize = 0;
-    while k < 64 {
-        r[k] = v[products[k] as usize] % LLRS;
-        r[k + 1] = v[products[k + 1] as usize] % LLRS;
-        r[k + 2] = v[products[k + 2] as usize] % LLRS;
-        r[k + 3] = v[products[k + 3] as usize] % LLRS;
-        k += 4;
+    for q in 0..16 {
+        for j in 0..4 {
+            let k = 4 * q + j;
+            r[k] = v[usize::from(products[k])] % LLRS;
+        }
     }
     r
 }

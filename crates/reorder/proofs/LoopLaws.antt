@@ -1,12 +1,11 @@
 -- The laws of loops that map or fill the entries of a vector.
-use mathlib.Core.Path.{◌≡◌, refl, sym, ap, ◌∙◌, subst}
+use mathlib.Core.Path.{◌≡◌, refl, ap, ◌∙◌, subst}
 use mathlib.Core.List.{List}
 use Prim.Native.Nat.{ℕ, ◌+◌, ◌≤◌, ◌<◌}
 use native.Mathlib.Decide.{dec_lt}
 use native.Mathlib.Omega.{arith}
 use lib.ListN.{length, get_or, set, length-set}
 use lib.Seq.{get_or-set_same, get_or-set_other}
-use Rattle.vector.proofs.Laws.{Filled, fill_more}
 use Rattle.reorder.specs.Order.{Mapped}
 
 -- a loop that maps the entries of a list in rising order
@@ -31,10 +30,6 @@ module _ {f : ℕ → ℕ → ℕ} {lo : ℕ} {before : List ℕ} where
           let z : n ≡ b = omega arith in
           let w : n < length after = (let k = h.long in omega arith) in
           subst (λ (j : ℕ). get_or (set after n x) j 0 ≡ f j (get_or before j 0)) z (get_or-set_same after n x 0 w ∙ e)
-
--- a loop that fills a list several entries at a time: one entry more, of which the next number is given
-pub fill_next : {n b m x : ℕ} {f : ℕ → ℕ} {xs : List ℕ} → Filled n f xs b → b < n → m ≡ b + 1 → x ≡ f b → Filled n f (set xs b x) m
-fill_next {n} {b} {m} {x} {f} {xs} h l k e = subst (λ (j : ℕ). Filled n f (set xs b x) j) (sym k) (fill_more h l e)
 
 -- where it ends
 pub map_all : {f : ℕ → ℕ → ℕ} {lo n m : ℕ} {before after : List ℕ} → Mapped f lo n before after → n ≡ m → Mapped f lo m before after

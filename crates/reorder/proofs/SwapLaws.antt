@@ -1,17 +1,13 @@
 -- The laws of a vector with entries exchanged.
-use mathlib.Core.Path.{◌≡◌, sym, ap, ap₂, ◌∙◌, subst}
+use mathlib.Core.Path.{◌≡◌, sym, ap, ◌∙◌, subst}
 use mathlib.Core.List.{List}
-use Prim.Native.Nat.{ℕ, ◌+◌, ◌-◌, ◌%◌, ◌≤◌, ◌<◌}
+use Prim.Native.Nat.{ℕ, ◌+◌, ◌%◌, ◌≤◌, ◌<◌}
 use native.Mathlib.Omega.{arith}
 use lib.ListN.{length, get_or}
 use Rattle.vector.proofs.Laws.{length_tabulate, get_d_tabulate, tabulate_ext, tabulate_by}
 use Rattle.gf64.specs.Field.{◌⊕◌}
 use Rattle.gf64.proofs.SumLaws.{sum_lt, sum_assoc, sum_zero}
-use Rattle.reorder.specs.Order.{Small, swapped}
-
--- in a part that keeps its place the entry exchanged for entry b
-pub own_source : (first b run : ℕ) → first ≤ b → (first + (b - first)) ⊕ (run % 8 % 64) ≡ b ⊕ (run % 8)
-own_source first b run l = ap₂ ◌⊕◌ (omega arith) (omega arith)
+use Rattle.reorder.specs.Order.{Small, Mapped, swapped}
 
 -- with no run the entries of a part are those of the other from its first on
 pub source_plain : (from i : ℕ) → (from + i) ⊕ (0 % 64) ≡ from + i
@@ -21,6 +17,11 @@ source_plain from i = sum_zero (from + i)
 pub swapped_long : (v : List ℕ) (run : ℕ) → length (swapped v run) ≡ 64
 unfolding swapped
 swapped_long v run = length_tabulate 64 (λ i. get_or v (i ⊕ run) 0)
+
+-- a vector all of whose entries are those of a copy is the copy
+pub swapped_by : (v : List ℕ) (run n : ℕ) (before after : List ℕ) → Mapped (λ b _. get_or v (b ⊕ run) 0) 0 n before after → 64 ≤ n → after ≡ swapped v run
+unfolding swapped
+swapped_by v run n before after m l = tabulate_by 0 64 _ _ m.long (λ i s. m.done i (omega arith) (omega arith))
 
 -- its entry i
 pub swapped_at : (v : List ℕ) (run i : ℕ) → i < 64 → get_or (swapped v run) i 0 ≡ get_or v (i ⊕ run) 0

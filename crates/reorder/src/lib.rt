@@ -6,6 +6,6 @@ mod part;
 mod penalties;
 mod swap;
 
-pub use part::part_replaced;
+pub use part::replace_part;
 pub use penalties::{LLRS, low_bits};
 pub use swap::swapped;

@@ -2,6 +2,8 @@
 ghost use Rattle.std.specs.Prelude.{◌≡◌};
 ghost use Rattle.reorder.specs.Order.{low_bits};
 
+use std::array;
+
 // The number of penalties that there are: 0 to 8,191.
 pub const LLRS: u16 = 8192;
 
@@ -9,11 +11,5 @@ pub const LLRS: u16 = 8192;
 pub fn low_bits(v: &[u16; 64]) -> [u16; 64]
     ensures { result ≡ low_bits v.now }
 {
-    let mut r = [0u16; 64];
-    let mut b: usize = 0;
-    while b < 64 {
-        r[b] = v[b] % LLRS;
-        b += 1;
-    }
-    r
+    array::from_fn(|b| v[b] % LLRS)
 }

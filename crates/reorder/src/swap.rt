@@ -2,7 +2,7 @@
 ghost use Rattle.std.specs.Prelude.{◌≡◌, ◌%◌};
 ghost use Rattle.reorder.specs.Order.{swapped};
 
-use crate::part::part_replaced;
+use crate::part::replace_part;
 
 // A vector with its entries i and i + run (the field's sum) exchanged, in each block of eight. Of the run the three
 // low bits count.
@@ -11,12 +11,9 @@ pub fn swapped(v: &[u16; 64], run: usize) -> [u16; 64]
 {
     let by = run % 8;
     let mut r = [0u16; 64];
-    let mut block: usize = 0;
-    while block < 8 {
+    for block in 0..8 {
         let at = 8 * block;
-        let next = part_replaced(v, at, by, r, at, 8);
-        r = next;
-        block += 1;
+        replace_part(v, at, by, &mut r, at, 8);
     }
     r
 }

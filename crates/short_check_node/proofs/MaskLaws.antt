@@ -1,6 +1,7 @@
 -- The laws of sets of values as numbers.
-use Rattle.std.proofs.Common.{◌≡◌, ℕ, zero, suc, ◌+◌, ◌-◌, ◌*◌, ◌/◌, ◌%◌, ◌^◌, ◌<◌, ◌≤◌, min, sym, refl, ap, ◌∙◌, subst, ap₂, le_of_suc-le-suc, not-suc-le-zero, zero-lt-suc, pow-suc, arith, pow_mono}
-use native.Mathlib.Nat.{min-eq_left, min-eq_right}
+use Rattle.std.proofs.Common.{◌≡◌, ℕ, zero, suc, ◌+◌, ◌-◌, ◌*◌, ◌/◌, ◌%◌, ◌^◌, ◌<◌, ◌≤◌, min, sym, refl, ap, ◌∙◌, subst, ap₂, le_of_suc-le-suc, not-suc-le-zero, zero-lt-suc, pow-suc, arith}
+use native.Mathlib.Nat.{min-eq_left, min-eq_right, zero-add, add-zero, suc-add, mul_assoc, mul_comm, mul-le-mul_left, mul-suc, mod-eq_of_lt}
+use Rattle.std.proofs.Common.{pow-add}
 use native.Mathlib.Decide.{dec_lt}
 use lib.Bits.{bit_and, bit_xor, differ, xor_step, xor_zero_l, and_step, and_self}
 use lib.Count.{under, count_trailing_zeros}
@@ -61,48 +62,48 @@ mask_lt (suc n) f h =
     let e = pow-suc 2 n in
     omega arith
 
--- without the lowest eight of 64 bits it fits in 56
-pub mask_fits : (f : ℕ → ℕ) (n mask : ℕ) → Flags f → n ≤ 56 → mask ≡ mask_of n f → mask < 72057594037927936
-mask_fits f n mask h l e =
-    let a = mask_lt n f h in
-    let b = pow_mono {i = n} {j = 56} l in
-    omega arith
-
--- eight bits, and the others
-pub mask_eight : (n k : ℕ) (f : ℕ → ℕ) → k ≡ n + 8 → mask_of k f ≡ mask_of 8 f + 256 * mask_of n (λ i. f (i + 8))
+-- a number's lowest m bits, and the others
+mask_split : (m n : ℕ) (f : ℕ → ℕ) → mask_of (m + n) f ≡ mask_of m f + 2 ^ m * mask_of n (λ i. f (m + i))
 unfolding mask_of
-mask_eight n k f e =
-    let m : k ≡ suc (suc (suc (suc (suc (suc (suc (suc n))))))) = omega arith in
-    let g : ℕ → ℕ = λ i. f (suc (suc (suc (suc (suc (suc (suc (suc i)))))))) in
-    let all : mask_of k f ≡ f 0 + 2 * (f 1 + 2 * (f 2 + 2 * (f 3 + 2 * (f 4 + 2 * (f 5 + 2 * (f 6 + 2 * (f 7 + 2 * mask_of n g)))))))
-    = ap (λ (j : ℕ). mask_of j f) m in
-    let eight : mask_of 8 f ≡ f 0 + 2 * (f 1 + 2 * (f 2 + 2 * (f 3 + 2 * (f 4 + 2 * (f 5 + 2 * (f 6 + 2 * (f 7 + 2 * 0))))))) = refl in
-    let others = mask_ext n g (λ i. f (i + 8)) (λ i l. ap f (omega arith)) in
+mask_split zero n f =
+    let e = mask_ext n f (λ i. f (0 + i)) (λ i l. ap f (omega arith)) in
+    ap (λ (k : ℕ). mask_of k f) (zero-add n) ∙ omega arith
+mask_split (suc m) n f =
+    let e = mask_split m n (λ i. f (suc i)) in
+    let g = mask_ext n (λ i. f (suc (m + i))) (λ i. f (suc m + i)) (λ i l. ap f (sym (suc-add m i))) in
+    let k : mask_of (suc m + n) f ≡ f 0 + 2 * mask_of (m + n) (λ i. f (suc i)) = ap (λ (j : ℕ). mask_of j f) (suc-add m n) in
+    let p = ap (λ (x : ℕ). x * mask_of n (λ i. f (suc m + i))) (pow-suc 2 m) in
+    let q = mul_assoc (2 ^ m) 2 (mask_of n (λ i. f (suc m + i))) in
+    let r = ap (λ (x : ℕ). 2 ^ m * x) g in
+    let s = mul_comm (2 ^ m) (2 * mask_of n (λ i. f (suc m + i))) in
+    let t = mul_assoc 2 (mask_of n (λ i. f (suc m + i))) (2 ^ m) in
+    let u = mul_comm (mask_of n (λ i. f (suc m + i))) (2 ^ m) in
     omega arith
 
--- eight bits as one number
-pub byte_is : (g : ℕ → ℕ) (b r : ℕ) → b ≡ g 0 → r ≡ b + 2 * g 1 + 4 * g 2 + 8 * g 3 + 16 * g 4 + 32 * g 5 + 64 * g 6 + 128 * g 7
-    → ((i : ℕ) → i < 8 → g i ≤ 1) → (r ≡ mask_of 8 g) × (r < 256)
+-- one bit more
+pub mask_more : (i : ℕ) (f : ℕ → ℕ) {byte : ℕ} → byte ≡ mask_of i f → byte + 2 ^ i * f i ≡ mask_of (i + 1) f
 unfolding mask_of
-byte_is g b r z e h =
-    let eight : mask_of 8 g ≡ g 0 + 2 * (g 1 + 2 * (g 2 + 2 * (g 3 + 2 * (g 4 + 2 * (g 5 + 2 * (g 6 + 2 * (g 7 + 2 * 0))))))) = refl in
-    let l0 = h 0 (omega arith) in
-    let l1 = h 1 (omega arith) in
-    let l2 = h 2 (omega arith) in
-    let l3 = h 3 (omega arith) in
-    let l4 = h 4 (omega arith) in
-    let l5 = h 5 (omega arith) in
-    let l6 = h 6 (omega arith) in
-    let l7 = h 7 (omega arith) in
-    (omega arith, omega arith)
-
--- the bits of the values from 8 × block on, those of the block being its lowest: next is the block after it
-pub mask_block : (f : ℕ → ℕ) (block next mask byte : ℕ) → next ≡ block + 1 → block < 8 → mask ≡ mask_of (64 - 8 * next) (λ i. f (8 * next + i))
-    → byte ≡ mask_of 8 (λ i. f (8 * block + i)) → 256 * mask + byte ≡ mask_of (64 - 8 * block) (λ i. f (8 * block + i))
-mask_block f block next mask byte n l e b =
-    let all = mask_eight (64 - 8 * next) (64 - 8 * block) (λ i. f (8 * block + i)) (omega arith) in
-    let others = mask_ext (64 - 8 * next) (λ i. f (8 * next + i)) (λ i. f (8 * block + (i + 8))) (λ i s. ap f (omega arith)) in
+mask_more i f e =
+    let s = mask_split i 1 f in
+    let one : mask_of 1 (λ j. f (i + j)) ≡ f i = ap (λ (x : ℕ). x + 2 * 0) (ap f (add-zero i)) ∙ omega arith in
+    let p = ap (λ (x : ℕ). 2 ^ i * x) one in
     omega arith
+
+-- eight bits more
+pub mask_eight : (i : ℕ) (f : ℕ → ℕ) {mask byte : ℕ} → mask ≡ mask_of i f → byte ≡ mask_of 8 (λ j. f (i + j)) → mask + 2 ^ i * byte ≡ mask_of (i + 8) f
+mask_eight i f e b =
+    let s = mask_split i 8 f in
+    let p = ap (λ (x : ℕ). 2 ^ i * x) b in
+    omega arith
+
+-- k bits above the i lowest: shifted there they are not cut off where the number has room for them, and with the i lowest they are i + k bits
+pub part_more : (i k part mask top : ℕ) → part < 2 ^ k → mask < 2 ^ i → 2 ^ (i + k) ≤ top → (part * 2 ^ i % top ≡ 2 ^ i * part) × (mask + 2 ^ i * part < 2 ^ (i + k))
+part_more i k part mask top lp lm room =
+    let e = pow-add 2 i k in
+    let m = mul-le-mul_left (2 ^ i) lp in
+    let n = mul-suc (2 ^ i) part in
+    let c = mul_comm part (2 ^ i) in
+    (ap (λ (x : ℕ). x % top) c ∙ mod-eq_of_lt (omega arith), omega arith)
 
 -- the set is empty where the number is 0
 pub mask_none : (n : ℕ) (f : ℕ → ℕ) → mask_of n f ≡ 0 → (i : ℕ) → i < n → f i ≡ 0

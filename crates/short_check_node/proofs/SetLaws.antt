@@ -1,5 +1,5 @@
 -- The set of the values tried, from a threshold.
-use Rattle.std.proofs.Common.{◌≡◌, ℕ, zero, suc, ◌+◌, ◌-◌, ◌<◌, ◌≤◌, Bool, cond, eqb, List, get_or, refl, ap, ◌∙◌, ap₂, le_refl, add-zero, arith, le-ltb, lt-ltb, eq-eqb, ne_eqb}
+use Rattle.std.proofs.Common.{◌≡◌, ℕ, zero, suc, max, ◌+◌, ◌-◌, ◌<◌, ◌≤◌, Bool, cond, eqb, List, get_or, refl, ap, ◌∙◌, ap₂, le_refl, add-zero, arith, le-ltb, lt-ltb, eq-eqb, ne_eqb}
 use native.Mathlib.Decide.{dec_lt}
 use lib.Bits.{bit_xor}
 use Rattle.vector.specs.Vector.{sum_to, AtMost}
@@ -11,13 +11,13 @@ use Rattle.short_check_node.proofs.CutLaws.{from_before, from_after, from_le}
 
 -- ---- how many values are tried
 
--- 1 where none are asked for
-pub asked_none : (m : ℕ) → m ≡ 0 → 1 ≡ at_least_one m
+-- as many as are asked for, and at least 1
+pub asked_least : (m : ℕ) → max m 1 ≡ at_least_one m
 unfolding at_least_one
-asked_none zero e = refl
-asked_none (suc m) e = absurd (omega arith)
+asked_least zero = refl
+asked_least (suc m) = omega arith
 
--- and else as many as are asked for
+-- so it is the number itself where one at least is asked for
 pub asked_some : (m : ℕ) → 1 ≤ m → m ≡ at_least_one m
 unfolding at_least_one
 asked_some zero l = absurd (omega arith)

@@ -1,7 +1,7 @@
 -- The laws of the least sums over a set of values.
 use Rattle.std.proofs.Common.{◌≡◌, ℕ, ◌+◌, ◌-◌, ◌*◌, ◌/◌, ◌%◌, ◌<◌, ◌≤◌, Bool, cond, ◌&&◌, T, eqb, ltb, ◌⊎◌, List, length, get_or, sym, ap, ◌∙◌, subst, ap₂, inl, inr, ⊎_elim, arith, eqb→eq, ltb→lt, le-ltb, lt-ltb}
 use native.Mathlib.Decide.{dec_lt}
-use lib.Bits.{bit_and}
+use lib.Bits.{bit_and, bit_xor, xor_lt}
 use lib.Count.{count_trailing_zeros}
 use Rattle.vector.proofs.Laws.{tabulate_by}
 use Rattle.vector.proofs.All.{and_left, and_right, all, all_at}
@@ -48,17 +48,6 @@ source_is c b lc lb =
 
 -- ---- the smaller of two numbers
 
--- it is the smaller of its two cases: a and b are where the two numbers stand among signed numbers
-pub smaller_is : (held w a b r : ℕ) → a ≡ signed_rank held → b ≡ signed_rank w → (a < b → r ≡ held) → (b ≤ a → r ≡ w) → r ≡ signed_min held w
-smaller_is held w a b r ea eb f g =
-    by_test (dec_lt a b)
-  where
-    by_test : Dec (a < b) → r ≡ signed_min held w
-    by_test (yes l) =
-        f l ∙ sym (ap (λ (t : Bool). cond t held w) (lt-ltb (signed_rank held) (signed_rank w) (omega arith)))
-    by_test (no l) =
-        g (omega arith) ∙ sym (ap (λ (t : Bool). cond t held w) (le-ltb (signed_rank held) (signed_rank w) (omega arith)))
-
 -- what is kept of two numbers: no more than either, and one of them
 record Kept (held w r : ℕ) : Type 0 where
   first : r ≤ held
@@ -75,6 +64,10 @@ kept_min held w l m = go (dec_lt held w)
     go (no s) =
         let e : signed_min held w ≡ w = ap (λ (t : Bool). cond t held w) (le-ltb (signed_rank held) (signed_rank w) (omega arith)) in
         record { first = omega arith; second = omega arith; either = inr e }
+
+-- where the copies are read for a block
+pub block_lt : (block c : ℕ) → block < 8 → c < 64 → bit_xor block (c / 8) < 8
+block_lt block c l m = xor_lt 3 block (c / 8) l (omega arith)
 
 -- what a block's value i gets at value c
 pub block_with : (copies : List ℕ) (x c block i held old w : ℕ) → i < 8 → held ≡ old

@@ -3,26 +3,17 @@ ghost use Rattle.std.specs.Prelude.{◌≡◌, ◌≤◌};
 ghost use Rattle.vector.specs.Vector.{AtMost};
 ghost use Rattle.reorder.specs.Order.{Small};
 ghost use Rattle.scms.specs.Tried.{count_below};
-ghost use Rattle.short_check_node.specs.Masks.{one_if_below, Threshold};
-
-// 1 for a penalty below t, and else 0.
-pub(crate) fn one_if_below(x: u16, t: u16) -> u16
-    ensures { result ≡ one_if_below x t }
-{
-    if x < t { 1 } else { 0 }
-}
+ghost use Rattle.short_check_node.specs.Masks.{Threshold};
 
 // How many of the 64 penalties are below t.
 pub(crate) fn count_below(v: &[u16; 64], t: u16) -> u16
     ensures { result ≡ count_below v.now t }
 {
-    let mut s: u16 = 0;
-    let mut c: usize = 0;
-    while c < 64 {
-        s += one_if_below(v[c], t);
-        c += 1;
+    let mut count: u16 = 0;
+    for x in v {
+        count += u16::from(*x < t);
     }
-    s
+    count
 }
 
 // A penalty that none of the 64 is above.
@@ -30,16 +21,7 @@ fn largest_of(v: &[u16; 64]) -> u16
     requires { Small v.now }
     ensures { AtMost result v.now × (result ≤ 8191) }
 {
-    let mut m: u16 = 0;
-    let mut c: usize = 0;
-    while c < 64 {
-        let x = v[c];
-        if m < x {
-            m = x;
-        }
-        c += 1;
-    }
-    m
+    v.iter().copied().max().unwrap_or(0)
 }
 
 // The threshold of m values, by halving: at most m penalties are below it, and at least m not above it.

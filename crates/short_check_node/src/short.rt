@@ -9,15 +9,12 @@ use check_node::check_node;
 use reorder::low_bits;
 
 // The number of values that are tried, where it is below 64: 1 where 0 are asked for.
+#[tactic(auto, using(crate::proofs::SetLaws::asked_least))]
 fn at_least_one(candidates: usize) -> u16
     requires { candidates < 64 }
     ensures { result ≡ at_least_one candidates }
 {
-    if candidates == 0 {
-        1
-    } else {
-        candidates as u16
-    }
+    candidates.max(1) as u16
 }
 
 // A check node that tries some values only: for each value b the least, over the `candidates` values c whose penalties

@@ -3,17 +3,18 @@
 use mathlib.Core.Path.{◌≡◌, refl, sym, ap, ap₂, ◌∙◌}
 use mathlib.Core.List.{List}
 use Prim.Native.Nat.{ℕ, zero, suc, ◌+◌, ◌-◌, ◌*◌, ◌/◌, ◌%◌, ◌≤◌, ◌<◌}
+use native.Mathlib.Nat.{zero-mul}
 use native.Mathlib.Omega.{arith}
 use lib.Bits.{xor_lt, xor_zero_r, xor_shifted, xor_block}
-use lib.ListN.{get_or}
+use lib.ListN.{length, get_or}
 use Rattle.gf64.specs.Field.{◌⊕◌}
 use Rattle.gf64.proofs.SumLaws.{sum_comm}
 use Rattle.scms.specs.Nodes.{sum_at}
 use Rattle.reorder.specs.Order.{swapped}
-use Rattle.reorder.proofs.SwapLaws.{source_plain, swapped_at}
+use Rattle.reorder.proofs.SwapLaws.{source_plain, swapped_at, swapped_none, swapped_again}
 
 -- the low bits of a number, one by one: together they are the three low bits
-pub low_bits_sum : (u : ℕ) → (u / 4 % 2 * 4) ⊕ ((u / 2 % 2 * 2) ⊕ (u % 2)) ≡ u % 8
+low_bits_sum : (u : ℕ) → (u / 4 % 2 * 4) ⊕ ((u / 2 % 2 * 2) ⊕ (u % 2)) ≡ u % 8
 unfolding ◌⊕◌
 low_bits_sum u =
     let two : u / 2 % 2 * 2 + u % 2 ≡ u % 4 = omega arith in
@@ -22,11 +23,22 @@ low_bits_sum u =
     ∙ xor_shifted (u / 4 % 2) 2 (u / 2 % 2 * 2 + u % 2) (omega arith)
     ∙ omega arith
 
--- a bit that is not 1
-pub not_one : (b : ℕ) → b < 2 → (b ≡ 1 → ⊥) → 0 ≡ b
-not_one zero l n = refl
-not_one (suc zero) l n = absurd (n refl)
-not_one (suc (suc b)) l n = absurd (omega arith)
+-- where a bit is 1 the copy with entries at a distance exchanged is the copy by bit times distance
+pub swapped_one : (v : List ℕ) (bit run : ℕ) → bit ≡ 1 → run < 8 → swapped v (run % 8) ≡ swapped v (bit * run)
+swapped_one v bit run e l = ap (swapped v) (let s : run % 8 ≡ 1 * run = omega arith in s ∙ ap (λ (b : ℕ). b * run) (sym e))
+
+-- and where it is 0 the vector itself is
+pub swapped_zero : (v : List ℕ) (bit run : ℕ) → bit < 2 → (bit ≡ 1 → ⊥) → length v ≡ 64 → v ≡ swapped v (bit * run)
+swapped_zero v zero run l n e = swapped_none v e ∙ ap (swapped v) (sym (zero-mul run))
+swapped_zero v (suc zero) run l n e = absurd (n refl)
+swapped_zero v (suc (suc b)) run l n e = absurd (omega arith)
+
+-- a copy by each of the three low bits in turn is the copy by all three
+pub swapped_bits : (v v1 v2 w : List ℕ) (u : ℕ) → v1 ≡ swapped v (u % 2 * 1) → v2 ≡ swapped v1 (u / 2 % 2 * 2) → w ≡ swapped v2 (u / 4 % 2 * 4) → w ≡ swapped v (u % 8)
+swapped_bits v v1 v2 w u e1 e2 e3 =
+    let one : u % 2 * 1 ≡ u % 2 = omega arith in
+    swapped_again v ((u / 2 % 2 * 2) ⊕ (u % 2)) (u / 4 % 2 * 4) e3 (swapped_again v (u % 2) (u / 2 % 2 * 2) e2 (e1 ∙ ap (swapped v) one) (omega arith) refl) (omega arith)
+    (low_bits_sum u)
 
 -- the place b ⊕ u, by the blocks of eight: u's high bits name the block, its low bits the place there
 block_place : (u block i : ℕ) → i < 8 → (8 * (block ⊕ (u / 8)) + i) ⊕ (u % 8) ≡ (8 * block + i) ⊕ u

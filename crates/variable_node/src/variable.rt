@@ -1,11 +1,13 @@
 // The variable node of a kernel, by plain loops: the sums; the least of them, and each less the least; and the clip.
-ghost use Rattle.std.specs.Prelude.{◌≡◌, cond, ◌<◌, ◌≤◌, min, ltb};
+ghost use Rattle.std.specs.Prelude.{◌≡◌, ◌<◌, ◌≤◌};
 ghost use Rattle.scms.specs.Nodes.{sums_from, clipped, exceeding};
 ghost use Rattle.reorder.specs.Order.{Small};
 ghost use Rattle.variable_node.specs.VariableNode.{IsVariableNode};
 
 use crate::translate::translated;
 use reorder::low_bits;
+use std::array;
+use vector::Lowered;
 
 // The sums of a variable node, theta's symbol being u and phi's vector in the order of c: for each c, theta's penalty
 // at u + c (the field's sum) plus phi's at h times c. Theta's vector is put in the order of u + c first, so that the
@@ -15,34 +17,14 @@ fn sums(theta: &[u16; 64], ordered: &[u16; 64], u: u8) -> [u16; 64]
     ensures { result ≡ sums_from u theta.now ordered.now }
 {
     let t = translated(theta, u);
-    let mut r = [0u16; 64];
-    let mut c: usize = 0;
-    while c < 64 {
-        r[c] = t[c] + ordered[c];
-        c += 1;
-    }
-    r
-}
-
-// A penalty, clipped to the cap where it exceeds the cap.
-fn clip(cap: u16, x: u16) -> u16
-    ensures { result ≡ min cap x }
-{
-    if cap < x { cap } else { x }
-}
-
-// 1 for a penalty that exceeds the cap, else 0.
-fn exceeds(cap: u16, x: u16) -> u16
-    ensures { (result ≡ cond (ltb cap x) 1 0) × (result ≤ 1) }
-{
-    if cap < x { 1 } else { 0 }
+    array::from_fn(|c| t[c] + ordered[c])
 }
 
 // 64 penalties after the clip, and how many exceeded the cap before it.
 #[derive(Drop)]
 struct Clipped {
-    pub llrs: [u16; 64],
-    pub count: u32,
+    llrs: [u16; 64],
+    count: u32,
 }
 
 // Clips each of 64 penalties to the cap, and counts those that exceed it.
@@ -50,16 +32,13 @@ fn clip_llrs(cap: u16, v: &[u16; 64]) -> Clipped
     ensures { (result.llrs ≡ clipped cap v.now)
         × (result.count ≡ exceeding cap v.now) × (result.count ≤ 64) }
 {
-    let mut llrs = [0u16; 64];
+    let mut llrs = *v;
     let mut count: u16 = 0;
-    let mut c: usize = 0;
-    while c < 64 {
-        let x = v[c];
-        llrs[c] = clip(cap, x);
-        count += exceeds(cap, x);
-        c += 1;
+    for x in llrs.iter_mut() {
+        count += u16::from(cap < *x);
+        *x = (*x).min(cap);
     }
-    let count = count as u32;
+    let count = u32::from(count);
     Clipped { llrs, count }
 }
 
@@ -80,13 +59,7 @@ pub fn variable_node(theta: &[u16; 64], ordered: &[u16; 64], u: u8, cap: u16) ->
     let low_theta = low_bits(theta);
     let low_ordered = low_bits(ordered);
     let all = sums(&low_theta, &low_ordered, u % 64);
-    let low = vector::subtract_least(&all);
-    let rest = low.rest;
-    let clipped = clip_llrs(cap, &rest);
-    let llrs = clipped.llrs;
-    VariableNode {
-        llrs,
-        count: clipped.count,
-        taken: low.taken,
-    }
+    let Lowered { rest, taken } = vector::subtract_least(&all);
+    let Clipped { llrs, count } = clip_llrs(cap, &rest);
+    VariableNode { llrs, count, taken }
 }

@@ -256,9 +256,9 @@ least_front v (suc k) l =
     ∙ ap (λ (m : ℕ). min m (get_or v (suc k) 0)) (ap (λ (n : ℕ). fold min (get_or v 0 0) (take n v)) (sym (add-one k)) ∙ least_front v k (omega arith))
 
 -- so of all 64
-pub least_fold : (v : List ℕ) → length v ≡ 64 → fold min (get_or v 0 0) v ≡ least v
+pub least_fold : (v : List ℕ) (n : ℕ) → length v ≡ 64 → 64 ≤ n → fold min (get_or v 0 0) (take n v) ≡ least v
 unfolding least
-least_fold v e = ap (fold min (get_or v 0 0)) (sym (take_all 64 v (le_of_eq e))) ∙ least_front v 63 (omega arith)
+least_fold v n e l = ap (fold min (get_or v 0 0)) (take_all n v (omega arith) ∙ sym (take_all 64 v (le_of_eq e))) ∙ least_front v 63 (omega arith)
 
 -- no entry of a vector is below its least
 pub least_le : (v : List ℕ) (b : ℕ) → b < 64 → least v ≤ get_or v b 0

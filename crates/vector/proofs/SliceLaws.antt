@@ -3,13 +3,14 @@ use mathlib.Core.Path.{◌≡◌, refl, sym, ap, ap₂, ◌∙◌, subst}
 use mathlib.Core.List.{List, ◌++◌, append_assoc}
 use Prim.Native.Nat.{ℕ, ◌+◌, ◌-◌, ◌*◌, ◌/◌, ◌≤◌, ◌<◌}
 use native.Mathlib.Decide.{dec_le, dec_lt}
+use native.Mathlib.Nat.{le_of_eq}
+use native.Mathlib.Numerals.{add-one}
 use native.Mathlib.Omega.{arith}
 use borrow.Author.Tests.{lt-ltb, le-ltb}
-use lib.ListN.{length, get_or, take, drop, length-append, length-drop, take-append-drop}
-use lib.Seq.{length-take-le, take_all, take_at, drop_at, take-append-le, drop-append-le, take-append-add, drop-append-add, get_or-take, get_or-drop, drop-drop}
-use borrow.Rule.Slice.PartMut.{put_mid}
+use lib.ListN.{length, get_or, take, drop, set, length-set, length-append, length-drop, take-append-drop}
+use lib.Seq.{length-take-le, take_all, take_at, drop_at, take-append-le, drop-append-le, take-append-add, drop-append-add, get_or-take, get_or-drop, drop-drop, paste, paste-zero, paste-suc}
 use Rattle.vector.specs.Vector.{tabulate, vector_at, joined, with_vector, stored}
-use Rattle.vector.proofs.Laws.{length_tabulate, tabulate_by}
+use Rattle.vector.proofs.Laws.{length_tabulate, get_d_tabulate, tabulate_by}
 use Rattle.vector.proofs.JoinedLaws.{joined_parts}
 
 -- ---- where a vector lies
@@ -164,10 +165,35 @@ pub stored_none : (xs : List ℕ) (i : ℕ) (v : List ℕ) → length xs / 64 �
 unfolding stored
 stored_none xs i v l = rw (le-ltb i (length xs / 64) l)
 
--- a vector put between what stood before it and after it is stored
-pub stored_put : (xs : List ℕ) (i k : ℕ) (v w : List ℕ) → w ≡ v → k ≡ 64 → length v ≡ 64 → 64 * (i + 1) ≤ length xs → put_mid (64 * i) k xs w ≡ stored xs i v
-unfolding with_vector
-stored_put xs i k v w ew ek e l =
-    ap₂ (λ (m : ℕ) (ys : List ℕ). take (64 * i) xs ++ (ys ++ drop m (drop (64 * i) xs))) ek (ew ∙ sym (entries_of v e))
-    ∙ ap (λ (ys : List ℕ). take (64 * i) xs ++ (tabulate 64 (λ c. get_or v c 0) ++ ys)) (drop-drop 64 (64 * i) xs)
-    ∙ sym (stored_there xs i l v)
+-- a loop that stores f 0, f 1, .., f 63 as vector i of a slice: those before c are stored
+pub record StoredTo (xs : List ℕ) (i : ℕ) (f : ℕ → ℕ) (after : List ℕ) (c : ℕ) : Type 0 where
+  pub few : c ≤ 64
+  pub long : length after ≡ length xs
+  pub is : after ≡ paste xs (64 * i) (tabulate 64 f) c
+
+-- where it begins
+pub store_none : (xs : List ℕ) (i : ℕ) (f : ℕ → ℕ) → StoredTo xs i f xs 0
+store_none xs i f = record { few = omega arith; long = refl; is = paste-zero xs (64 * i) (tabulate 64 f) }
+
+module _ {xs : List ℕ} {i : ℕ} {f : ℕ → ℕ} {after : List ℕ} {c : ℕ} (l : 64 * (i + 1) ≤ length xs) (s : StoredTo xs i f after c) where
+  -- one entry more
+  pub store_more : c < 64 → StoredTo xs i f (set after (64 * i + c) (f c)) (c + 1)
+  store_more k =
+      let T = tabulate 64 f in
+      let e = length_tabulate 64 f in
+      record {
+        few = omega arith;
+        long = length-set after (64 * i + c) (f c) ∙ s.long;
+        is = ap₂ (λ (ys : List ℕ) (x : ℕ). set ys (64 * i + c) x) s.is (sym (get_d_tabulate 0 64 f c k))
+            ∙ paste-suc xs (64 * i) T c 0 (omega arith) (omega arith) ∙ ap (paste xs (64 * i) T) (sym (add-one c));
+      }
+
+  -- where it ends the vector is stored
+  pub store_all : 64 ≤ c → after ≡ with_vector xs i f
+  unfolding with_vector
+  store_all k =
+      let T = tabulate 64 f in
+      let q : c ≡ 64 = (let m = s.few in omega arith) in
+      s.is ∙ ap (paste xs (64 * i) T) q
+      ∙ append_assoc (take (64 * i) xs) (take 64 T) (drop (64 * i + 64) xs)
+      ∙ ap (λ (ys : List ℕ). take (64 * i) xs ++ (ys ++ drop (64 * i + 64) xs)) (take_all 64 T (le_of_eq (length_tabulate 64 f)))

@@ -12,10 +12,15 @@ pub use part::place_llrs;
 use std::array;
 
 // The least of the 64 entries.
+#[tactic(auto, using(crate::proofs::Laws::least_fold))]
 pub fn least_of(v: &[u16; 64]) -> u16
     ensures { result ≡ least v.now }
 {
-    v.iter().fold(v[0], |m, x| m.min(*x))
+    let mut least = v[0];
+    for x in v {
+        least = least.min(*x);
+    }
+    least
 }
 
 // A vector less its least entry, and what was taken off.
@@ -25,7 +30,9 @@ pub struct Lowered {
     pub taken: u16,
 }
 
-// Each of the 64 entries less the least of them, and that least.
+// Each of the 64 entries less the least of them, and that least. It is laid out where it is called, so that the vector
+// stays in registers.
+#[inline(always)]
 pub fn subtract_least(v: &[u16; 64]) -> Lowered
     ensures { (result.rest ≡ less_least v.now) × (result.taken ≡ least v.now) }
 {
@@ -35,7 +42,7 @@ pub fn subtract_least(v: &[u16; 64]) -> Lowered
 }
 
 // Writes v as vector i of a slice. Where the slice has no such vector, nothing is written.
-#[tactic(auto, using(crate::proofs::SliceLaws::stored_none, crate::proofs::SliceLaws::stored_put))]
+#[tactic(auto, using(crate::proofs::SliceLaws::stored_none))]
 pub fn store(v: &[u16; 64], i: usize, s: &mut [u16])
     ensures { s.new ≡ stored s.old i v.now }
 {
@@ -43,7 +50,9 @@ pub fn store(v: &[u16; 64], i: usize, s: &mut [u16])
         return;
     }
     let at = 64 * i;
-    s[at..at + 64].copy_from_slice(v);
+    for (c, x) in v.iter().enumerate() {
+        s[at + c] = *x;
+    }
 }
 
 // The largest penalty of a precision of q bits, 2^q - 1; of 13 bits where q is more.
