@@ -12,12 +12,6 @@ use Rattle.reorder.proofs.LowLaws.{low_same}
 use Rattle.decoder.specs.Parts.{Kept, LayerGiven, OrderedGiven}
 use Rattle.decoder.specs.declared.vectors.BlockAt.{BlockAt}
 
--- a block from what the loops go by: where its kernels' coefficients begin, the number of its first vector, and how many
--- values a check node tries
-abbrev pub block_from : (start at candidates : ℕ) → BlockAt
-block_from start at candidates =
-    record { layers = 0; start = start; at = at; places = 0; cap = 0; candidates = candidates; taken = 0 }
-
 -- the vectors g 0, g 1, .., g (t − 1) stand after the block's, and what was before them is as it was
 pub record StoredNodes (at half : ℕ) (frame work : List ℕ) (g : ℕ → List ℕ) (after : List ℕ) (t : ℕ) : Type 0 where
   pub few : t ≤ half
@@ -116,10 +110,6 @@ pub record StoredFirst (half : ℕ) (before : List ℕ) (g : ℕ → List ℕ) (
   pub room : 64 * half ≤ length before
   pub long : length after ≡ length before
   pub vectors : (s : ℕ) → s < t → vector_at after s ≡ g s
-
--- none yet
-pub first_none : {half : ℕ} {before : List ℕ} {g : ℕ → List ℕ} → 64 * half ≤ length before → StoredFirst half before g before 0
-first_none l = record { room = l; long = refl; vectors = λ s k. absurd (omega arith) }
 
 -- one more
 pub first_more : {half t : ℕ} {before after next v : List ℕ} {g : ℕ → List ℕ} → StoredFirst half before g after t → t < half → v ≡ g t → length (g t) ≡ 64

@@ -9,7 +9,7 @@ use native.Mathlib.Nat.{le_of_suc-le-suc, not-suc-le-zero, zero-lt-suc}
 use native.Mathlib.Decide.{dec_lt}
 use native.Mathlib.Numerals.{add-one}
 use native.Mathlib.Omega.{arith}
-use borrow.Author.Count.{below_none, below_more}
+use borrow.Author.Count.{below_more}
 use borrow.Author.Tests.{eq-eqb, ne_eqb, eqb-true, lt-ltb, le-ltb}
 use lib.Dec.{ltb, eqb}
 use lib.ListN.{length, get_or, drop, drop_of_length-le}
@@ -17,7 +17,7 @@ use lib.Seq.{drop-cons}
 use Rattle.refusal.specs.Tests.{outside, any_outside, any_to}
 use Rattle.refusal.specs.Table.{Row, refusal_of, NoneFits, OneOf, Numbered}
 use Rattle.refusal.proofs.Laws.{accepted_none, first_refused, first_accepted, both_accepted, accepted_both}
-use Rattle.refusal.proofs.WalkLaws.{numbered, same_after}
+use Rattle.refusal.proofs.Laws.{numbered, same_after}
 use Rattle.refusal.proofs.Among.{Among, refusal_among}
 use Rattle.refusal.proofs.AnyTo.{any_there, none_there, each_not}
 use Rattle.refusal.proofs.Within.{above_outside, inside_within, within_inside, none_within, within_none, false_equal, equal_false}
@@ -25,7 +25,7 @@ use Rattle.vector.specs.Vector.{vector_at}
 use Rattle.vector.specs.Frame.{largest, IsFrame}
 use Rattle.vector.proofs.SliceLaws.{vector_long, vector_entry}
 use Rattle.vector.proofs.FrameLaws.{largest_is}
-use Rattle.polar_code.specs.Code.{Code, code_sizes, IsCode}
+use Rattle.polar_code.specs.Code.{Code, IsCode}
 use Rattle.polar_code.proofs.CodeLaws.{rows_code, sizes_of_code, code_bytes}
 use Rattle.decoder_refusal.specs.Refusals.{no_zero, greatest, llrs_row, zeros_row, buffer_rows, BuffersFit, size_table, code_rows, frame_rows, content_table, decode_table, decode_refusal, Decodable, Settings, Lent}
 
@@ -126,19 +126,7 @@ module _ (frame : List ℕ) where
     pub within : b ≤ 64
     pub none : (c : ℕ) → c < b → get_or frame (64 * i + c) 0 ≡ 0 → ⊥
 
-  -- where the scan begins
-  pub scan_none : Scanned 0
-  scan_none = record { within = omega arith; zeros = below_none _ }
-
-  -- where that of a vector begins
-  pub scan_vector : (i : ℕ) → Scanned i → i < length frame / 64 → Scanning i 0
-  scan_vector i h l = record { before = h; there = l; within = omega arith; none = below_none _ }
-
   module _ (i b : ℕ) (h : Scanning i b) where
-    -- the entry at b is not 0: on with the next entry
-    pub scan_entry : b < 64 → (get_or frame (64 * i + b) 0 ≡ 0 → ⊥) → Scanning i (b + 1)
-    scan_entry l z = record { before = h.before; there = h.there; within = omega arith; none = below_more _ _ h.none z }
-
     -- it is 0: on with the next vector
     pub scan_found : b < 64 → get_or frame (64 * i + b) 0 ≡ 0 → Scanned (i + 1)
     scan_found l z =

@@ -12,11 +12,7 @@ use ccsk::check_base;
 use refusal::{Refusal, require};
 
 // Goes down the rows on the samples and the buffer: whole symbols, 1 to 256 of them, and room for their penalties.
-#[tactic(auto, unfolding(
-    refusal::specs::Table::refusal_of,
-    refusal::specs::Tests::outside,
-    refusal::specs::Tests::unequal
-))]
+#[tactic(auto, unfolding(refusal::specs::Table::refusal_of, refusal::specs::Tests::outside, refusal::specs::Tests::unequal))]
 fn check_lengths(samples: &[i8], llrs: &[u16]) -> Result<(), Refusal>
     ensures { number result ≡ refusal_of (length_rows (length samples.now) llrs.now) }
 {
@@ -26,10 +22,7 @@ fn check_lengths(samples: &[i8], llrs: &[u16]) -> Result<(), Refusal>
 }
 
 // Goes down the rows on the precision, the base and the gain.
-#[tactic(auto, using(refusal::proofs::KindLaws::number_nonzero), unfolding(
-    refusal::specs::Table::refusal_of,
-    refusal::specs::Tests::outside
-))]
+#[tactic(auto, using(refusal::proofs::KindLaws::number_nonzero), unfolding(refusal::specs::Table::refusal_of, refusal::specs::Tests::outside))]
 fn check_settings(base: u64, gain: Gain, qc: u32) -> Result<(), Refusal>
     ensures { number result ≡ refusal_of (setting_rows base gain.top gain.bottom qc) }
 {

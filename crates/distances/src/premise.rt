@@ -10,10 +10,7 @@ use demapper::Gain;
 use refusal::Refusal;
 
 // Goes down the table of `premise_holds`, in document 01's order.
-#[tactic(auto, using(refusal::proofs::KindLaws::number_nonzero), unfolding(
-    refusal::specs::Table::refusal_of,
-    crate::specs::Premise::premise_refusal
-))]
+#[tactic(auto, using(refusal::proofs::KindLaws::number_nonzero), unfolding(refusal::specs::Table::refusal_of, crate::specs::Premise::premise_refusal))]
 fn check(base: u64, gain: Gain) -> Result<(), Refusal>
     ensures { number result ≡ premise_refusal base gain.top gain.bottom }
 {
@@ -23,10 +20,7 @@ fn check(base: u64, gain: Gain) -> Result<(), Refusal>
 
 // Whether the answer is no, for a gain that is accepted: the amplitude is outside 1 to 127, or amplitude × top × least
 // distance is below bottom.
-#[tactic(auto, using(crate::proofs::DistanceLaws::least_few), unfolding(
-    refusal::specs::Tests::outside,
-    crate::specs::Premise::premise_fails
-))]
+#[tactic(auto, using(crate::proofs::DistanceLaws::least_few), unfolding(refusal::specs::Tests::outside, crate::specs::Premise::premise_fails))]
 fn premise_fails(base: u64, amplitude: u32, gain: Gain) -> bool
     requires { Within 1 255 gain.top }
     ensures { result ≡ premise_fails base amplitude gain.top gain.bottom }

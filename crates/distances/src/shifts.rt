@@ -8,11 +8,7 @@ use ccsk::check_base;
 use refusal::{Refusal, require};
 
 // Goes down the table of `shifts_within`, in its order.
-#[tactic(auto, using(refusal::proofs::KindLaws::number_nonzero), unfolding(
-    refusal::specs::Table::refusal_of,
-    refusal::specs::Tests::unequal,
-    crate::specs::Shifts::shifts_refusal
-))]
+#[tactic(auto, using(refusal::proofs::KindLaws::number_nonzero), unfolding(refusal::specs::Table::refusal_of, refusal::specs::Tests::unequal, crate::specs::Shifts::shifts_refusal))]
 fn check(base: u64, shifts: &[u8]) -> Result<(), Refusal>
     ensures { number result ≡ shifts_refusal base shifts.now }
 {

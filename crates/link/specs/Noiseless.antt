@@ -29,16 +29,6 @@ pub record Reception : Type 0 where
   pub bottom : ℕ
   pub settings : Settings
 
--- what is sent, from what a caller gives
-abbrev pub transmission_of : (n : ℕ) (map cs message : List ℕ) (base amplitude : ℕ) → Transmission
-transmission_of n map cs message base amplitude =
-    record { code = code_of n map cs; message = message; base = base; amplitude = amplitude }
-
--- how it is received, likewise
-abbrev pub reception_of : (top bottom qc qm candidates : ℕ) → Reception
-reception_of top bottom qc qm candidates =
-    record { top = top; bottom = bottom; settings = settings_of qc qm candidates }
-
 -- a code, a message, a base and an amplitude that are not refused
 pub record Sendable (s : Transmission) : Type 0 where
   pub is_code : IsCode s.code

@@ -6,7 +6,7 @@ use borrow.Author.Tests.{ne_eqb, eqb-false}
 use lib.ListN.{length, drop}
 use Rattle.refusal.specs.Table.{Row, refusal_of, NoneFits, Numbered}
 use Rattle.refusal.proofs.Laws.{first_refused, first_accepted, both_accepted, accepted_both}
-use Rattle.refusal.proofs.WalkLaws.{numbered}
+use Rattle.refusal.proofs.Laws.{numbered}
 use Rattle.refusal.proofs.Within.{inside_within, within_inside, none_within, within_none, false_equal, equal_false}
 use Rattle.polar_code.specs.Code.{message_places}
 use Rattle.polar_code.proofs.CodeLaws.{rows_code, sizes_of_code, code_bytes}

@@ -1,24 +1,23 @@
 -- What it means that `encode` accepts its input, and what it then has to hand its parts.
 use mathlib.Core.Path.{◌≡◌, refl, sym, ap, ap₂, ◌∙◌, subst}
-use mathlib.Core.List.{List, ◌++◌}
+use mathlib.Core.List.{List}
 use Prim.Native.Nat.{ℕ, zero, suc, ◌+◌, ◌*◌, ◌/◌, ◌^◌, ◌≤◌, ◌<◌}
 use native.Mathlib.Nat.{mul-le-mul}
 use native.Mathlib.Omega.{arith}
 use lib.Dec.{lit<}
 use lib.ListN.{length, get_or}
 use lib.Pow.{pow_mono}
-use Rattle.refusal.specs.Table.{refusal_of, Numbered}
+use Rattle.refusal.specs.Table.{Numbered}
 use Rattle.refusal.proofs.Laws.{accepted_none, none_accepted}
-use Rattle.refusal.proofs.WalkLaws.{numbered}
+use Rattle.refusal.proofs.Laws.{numbered}
 use Rattle.refusal.proofs.Within.{none_within, within_none, false_equal, equal_false}
-use Rattle.polar_code.specs.Code.{Code, message_places, code_sizes, IsCode, IsWord}
-use Rattle.polar_code.specs.Sizes.{places_of}
-use Rattle.polar.specs.Encode.{word_before, codeword_of, encode_rows, encode_table, encode_refusal, Encodable}
+use Rattle.polar_code.specs.Code.{Code, message_places, IsCode, IsWord}
+use Rattle.polar.specs.Encode.{word_before, codeword_of, encode_table, encode_refusal, Encodable}
 use Rattle.polar.specs.Halves.{block_transform}
 use Rattle.polar.specs.Parts.{Room, Block, Placing}
 use Rattle.vector.proofs.Entries.{get_d_each}
 use Rattle.polar.proofs.Numbers.{half_pow}
-use Rattle.polar_code.proofs.CodeLaws.{rows_code, sizes_of_code, code_bytes, after_sizes}
+use Rattle.polar_code.proofs.CodeLaws.{rows_code, sizes_of_code, code_bytes}
 use Rattle.polar.proofs.MessageLaws.{length_word, word_symbols}
 use Rattle.polar.proofs.ByHalves.{by_halves}
 use Rattle.polar.proofs.OneToOne.{transform_word}
@@ -27,12 +26,6 @@ module _ (code : Code) (symbols buffer : List ℕ) where
   -- no row has the number 0
   rows_numbered : Numbered (encode_table code symbols buffer)
   rows_numbered = numbered (encode_table code symbols buffer) tt
-
-  -- the rows as `encode_refusal` tries them: with the places that `place_count` gives
-  pub encode_tried : {r : ℕ} → r ≡ refusal_of (code_sizes code ++ encode_rows (places_of code.n) code symbols buffer)
-      → r ≡ encode_refusal code symbols buffer
-  unfolding encode_refusal
-  encode_tried = after_sizes code (λ places. encode_rows places code symbols buffer)
 
   -- accepted exactly when no row fits
   pub accepted : encode_refusal code symbols buffer ≡ 0 → Encodable code symbols buffer

@@ -2,19 +2,18 @@
 use mathlib.Core.Path.{◌≡◌, refl, sym, ap, ap₂, ◌∙◌, subst}
 use mathlib.Core.Bool.{Bool, true, false, cond}
 use mathlib.Core.List.{List, [], ◌∷◌, ◌++◌}
-use Prim.Native.Nat.{ℕ, zero, suc, ◌+◌, ◌≤◌, ◌<◌}
+use Prim.Native.Nat.{ℕ, zero, suc, ◌+◌, ◌<◌}
 use native.Mathlib.Nat.{add-zero}
 use native.Mathlib.Numerals.{add-one}
 use native.Mathlib.Omega.{arith}
 use lib.Dec.{eqb, lit<}
-use lib.ListN.{length, get_or, take, drop, set, length-set}
+use lib.ListN.{length, get_or, take, drop, set}
 use Rattle.std.proofs.Common.{Option, None, Some, Bor, Iter, MatchOption, option_copied, unwrap_or}
 use Rattle.std.proofs.lemmas.List.{nil_from_length}
 use lib.Seq.{drop-cons, drop-drop, get_or-drop, take-suc-set, append_snoc}
 use Rattle.polar_code.specs.Code.{kind_of, message_count, message_places}
 use Rattle.polar_code.specs.declared.kinds.Kind.{Kind}
 use Rattle.polar_code.specs.declared.kinds.Kind.TheVariants.{Message as message, Frozen as frozen}
-use Rattle.polar_code.proofs.MapLaws.{places_from}
 use Rattle.polar.specs.Encode.{symbol_at, rest_after, word_before}
 use Rattle.polar.specs.Message.{with_place, message_of}
 

@@ -9,11 +9,7 @@ use polar_code::{Code, message_places};
 use refusal::{Refusal, any_outside, require};
 
 // Goes down the table of `encode`, in document 01's order.
-#[tactic(auto, unfolding(
-    refusal::specs::Table::refusal_of,
-    refusal::specs::Tests::unequal,
-    crate::specs::Encode::encode_refusal
-))]
+#[tactic(auto, unfolding(refusal::specs::Table::refusal_of, refusal::specs::Tests::unequal, crate::specs::Encode::encode_refusal))]
 fn check(code: &Code, message: &[u8], codeword: &[u8]) -> Result<(), Refusal>
     ensures { number result ≡ encode_refusal code.now message.now codeword.now }
 {
@@ -28,10 +24,7 @@ fn check(code: &Code, message: &[u8], codeword: &[u8]) -> Result<(), Refusal>
 // Encodes a message: its symbols fill the message places of the map, and the transform turns that word into the
 // codeword, which is then in the buffer lent for it. Refuses by the lowest of Layers (1), Length (2), MapByte (4),
 // NoMessagePlace (5), Coefficient (6) and Symbol (7) that fits, and leaves the buffer as it came.
-#[tactic(auto, using(
-    refusal::proofs::KindLaws::left_kept,
-    refusal::proofs::KindLaws::left_made
-), unfolding(crate::specs::Encode::encode_buffer))]
+#[tactic(auto, using(refusal::proofs::KindLaws::left_kept, refusal::proofs::KindLaws::left_made), unfolding(crate::specs::Encode::encode_buffer))]
 pub fn encode(code: &Code, message: &[u8], codeword: &mut [u8]) -> Result<(), Refusal>
     ensures { Encoded code.now message.now codeword.old codeword.new (number result) }
 {

@@ -1,15 +1,11 @@
 -- What the rows that judge a code say of it, and the rows of a longer table that go by its sizes.
-use mathlib.Core.Path.{◌≡◌, ap₂, ◌∙◌}
-use mathlib.Core.List.{List, [], ◌∷◌, ◌++◌}
+use mathlib.Core.List.{List}
 use Prim.Native.Nat.{ℕ, ◌*◌, ◌/◌, ◌^◌}
 use borrow.Author.Tests.{ne_eqb, eqb-false}
 use lib.ListN.{length}
-use Rattle.refusal.specs.Table.{Row, refusal_of, NoneFits}
-use Rattle.refusal.proofs.WalkLaws.{same_after}
+use Rattle.refusal.specs.Table.{NoneFits}
 use Rattle.refusal.proofs.Within.{inside_within, within_inside, none_within, within_none, false_equal, equal_false}
-use Rattle.polar_code.specs.Code.{Code, message_places, layers_row, code_table, length_rows, code_sizes, IsCode}
-use Rattle.polar_code.specs.Sizes.{places_of, kernels_of}
-use Rattle.polar_code.proofs.SizeLaws.{places_are, kernels_are}
+use Rattle.polar_code.specs.Code.{Code, message_places, code_table, code_sizes, IsCode}
 
 module _ (code : Code) where
   -- the number of layers
@@ -48,30 +44,3 @@ module _ (code : Code) where
     within_none 0 1 0 map c.map_bytes,
     (ne_eqb (message_places map) 0 c.some_message, (within_none 1 63 1 cs c.nonzero, tt)),
   )
-
-  -- ---- the sizes in a table: its rows may be tried with those that `place_count` and `kernel_count` give, once the
-  -- row on n is passed
-
-  -- the rows of `size_refusal`
-  pub sizes_tried : {r : ℕ} → r ≡ refusal_of (layers_row n ∷ length_rows (places_of n) (kernels_of n) map cs)
-      → r ≡ refusal_of (code_sizes code)
-  sizes_tried e =
-      e
-      ∙ same_after (layers_row n ∷ []) (length_rows (places_of n) (kernels_of n) map cs) (length_rows (2 ^ n) (n * (2 ^ n / 2)) map cs) (λ none.
-      let few = (inside_within 1 8 n none.0).most in
-      ap₂ (λ (places kernels : ℕ). refusal_of (length_rows places kernels map cs)) (places_are n few) (kernels_are n few))
-
-  -- rows that come after these, by the places and the kernels
-  pub after_both_sizes : (rest : (places kernels : ℕ) → List Row) {r : ℕ}
-      → r ≡ refusal_of (code_sizes code ++ rest (places_of n) (kernels_of n))
-      → r ≡ refusal_of (code_sizes code ++ rest (2 ^ n) (n * (2 ^ n / 2)))
-  after_both_sizes rest e =
-      e
-      ∙ same_after (code_sizes code) (rest (places_of n) (kernels_of n)) (rest (2 ^ n) (n * (2 ^ n / 2))) (λ none.
-      let few = (inside_within 1 8 n none.0).most in
-      ap₂ (λ (places kernels : ℕ). refusal_of (rest places kernels)) (places_are n few) (kernels_are n few))
-
-  -- and by the places alone
-  pub after_sizes : (rest : ℕ → List Row) {r : ℕ} → r ≡ refusal_of (code_sizes code ++ rest (places_of n))
-      → r ≡ refusal_of (code_sizes code ++ rest (2 ^ n))
-  after_sizes rest = after_both_sizes (λ places kernels. rest places)

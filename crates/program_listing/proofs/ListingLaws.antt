@@ -10,7 +10,7 @@ use lib.ListN.{length, get_or}
 use Rattle.refusal.specs.Returned.{Returned}
 use Rattle.refusal.specs.Table.{Numbered}
 use Rattle.refusal.proofs.Laws.{accepted_none, none_accepted}
-use Rattle.refusal.proofs.WalkLaws.{numbered}
+use Rattle.refusal.proofs.Laws.{numbered}
 use Rattle.refusal.proofs.Within.{false_equal, equal_false}
 use Rattle.vector.specs.Vector.{vector_at, joined}
 use Rattle.vector.proofs.Laws.{joined_ext}

@@ -12,7 +12,7 @@ use lib.Seq.{take_all}
 use Rattle.refusal.specs.Table.{NoneFits}
 use Rattle.refusal.proofs.AnyTo.{none_there, each_not}
 use Rattle.refusal.proofs.Laws.{row_fits, row_passed, accepted_none, none_accepted, when_refused}
-use Rattle.refusal.proofs.WalkLaws.{numbered}
+use Rattle.refusal.proofs.Laws.{numbered}
 use Rattle.refusal.proofs.Within.{equal_false, false_equal, some_outside, above_outside}
 use Rattle.vector.specs.Vector.{vector_at, joined, AtMost, HasZero}
 use Rattle.vector.specs.Frame.{IsFrame}

@@ -9,7 +9,7 @@ use Rattle.refusal.specs.declared.kinds.Refusal.{Refusal}
 use Rattle.refusal.specs.declared.kinds.Refusal.TheVariants.{Layers, Length, Precision, MapByte, NoMessagePlace, Coefficient, Symbol}
 use Rattle.refusal.specs.declared.kinds.Refusal.TheVariants.{Penalty, NoZero, Base, Gain, Form, Candidates, Amplitude}
 use Rattle.refusal.proofs.Laws.{first_accepted, first_refused, when_accepted, when_refused}
-use Rattle.refusal.proofs.WalkLaws.{numberedb, numbered}
+use Rattle.refusal.proofs.Laws.{numberedb, numbered}
 
 -- no refusal has the number 0, which is kept for 'accepted'
 pub number_nonzero : (r : Refusal) → number_of r ≡ 0 → ⊥

@@ -1,11 +1,11 @@
 -- The laws of a refusal table: a refusal is the number of the first row that fits, and a call is accepted exactly when no row does.
 use mathlib.Core.Path.{◌≡◌, refl, sym, ap, ◌∙◌}
-use mathlib.Core.Bool.{Bool, true, false, cond}
+use mathlib.Core.Bool.{Bool, true, false, cond, ◌&&◌}
 use mathlib.Core.List.{List, [], ◌∷◌, ◌++◌}
 use Prim.Native.Nat.{ℕ}
 use native.Mathlib.Omega.{arith}
-use borrow.Author.Tests.{eq-eqb, ne_eqb}
-use lib.Dec.{eqb}
+use borrow.Author.Tests.{eq-eqb, ltb-true, ne_eqb}
+use lib.Dec.{T, eqb, ltb}
 use Rattle.refusal.specs.Table.{Row, refusal_of, NoneFits, Numbered}
 
 -- a row that fits: its number is the refusal
@@ -77,3 +77,28 @@ module _ {A : Type 0} (r : ℕ) (made kept : A) where
   -- refused: as it came
   pub when_refused : (r ≡ 0 → ⊥) → cond (eqb r 0) made kept ≡ kept
   when_refused h = ap (λ (t : Bool). cond t made kept) (ne_eqb r 0 h)
+
+-- no row has the number 0: a test, which computes for a table that is written out
+abbrev pub numberedb : List Row → Bool
+numberedb [] = true
+numberedb (r ∷ rs) = ltb 0 r.0 && numberedb rs
+
+-- what the test says
+pub numbered : (rs : List Row) → T (numberedb rs) → Numbered rs
+numbered [] h = tt
+numbered (r ∷ rs) h = go (ltb 0 r.0) refl h (numbered rs)
+  where
+    go : (b : Bool) → ltb 0 r.0 ≡ b → T (b && numberedb rs) → (T (numberedb rs) → Numbered rs) → Numbered (r ∷ rs)
+    go true q t rest = (ltb-true 0 r.0 q, rest t)
+    go false q t rest = absurd t
+
+-- rows that say the same where no row before them fits
+pub same_after : (rs ss ts : List Row) → (NoneFits rs → refusal_of ss ≡ refusal_of ts) → refusal_of (rs ++ ss) ≡ refusal_of (rs ++ ts)
+unfolding refusal_of
+same_after [] ss ts h = h tt
+same_after (r ∷ rs) ss ts h = go r.1 refl (λ q. same_after rs ss ts (λ n. h (q, n)))
+  where
+    go : (t : Bool) → r.1 ≡ t → (r.1 ≡ false → refusal_of (rs ++ ss) ≡ refusal_of (rs ++ ts))
+        → cond r.1 r.0 (refusal_of (rs ++ ss)) ≡ cond r.1 r.0 (refusal_of (rs ++ ts))
+    go true q rest = rw q
+    go false q rest = ap (cond r.1 r.0) (rest q)

@@ -1,5 +1,4 @@
 pub mod Laws
-pub mod WalkLaws
 pub mod KindLaws
 pub mod Within
 pub mod AnyTo

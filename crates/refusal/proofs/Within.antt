@@ -88,10 +88,6 @@ pub record Ranged (low high : ℕ) (xs : List ℕ) (least most i : ℕ) : Type 0
   pub too_low : least < low → any_outside low high xs ≡ true
   pub too_high : high < most → any_outside low high xs ≡ true
 
--- before the first place
-pub ranged_none : (low high : ℕ) (xs : List ℕ) → Ranged low high xs low high 0
-ranged_none low high xs = record { passed = λ j l. absurd (omega arith); too_low = λ l. absurd (omega arith); too_high = λ l. absurd (omega arith) }
-
 -- one number more
 pub ranged_more : (low high : ℕ) (xs : List ℕ) (least most i least' most' : ℕ) → i < length xs → least' ≡ min least (get_or xs i 0) → most' ≡ max most (get_or xs i 0)
     → Ranged low high xs least most i → Ranged low high xs least' most' (i + 1)

@@ -1,5 +1,5 @@
 -- The numbers of document 01's table 'Refused' for the refusals of the code (src/kinds.rt), and for what calls answer.
-use Rattle.std.specs.Prelude.{ℕ, List, [], ◌∷◌, Bool, cond, Result, Ok, Err}
+use Rattle.std.specs.Prelude.{ℕ, [], ◌∷◌, Bool, cond, Result, Ok, Err}
 use Rattle.refusal.specs.Returned.{Returned}
 use Rattle.refusal.specs.declared.kinds.Refusal.{Refusal}
 use Rattle.refusal.specs.declared.kinds.Refusal.TheVariants.{Layers, Length, Precision, MapByte, NoMessagePlace, Coefficient, Symbol}

@@ -3,7 +3,7 @@ use mathlib.Core.Path.{◌≡◌, refl, sym, ap, ap₂, ◌∙◌, subst}
 use mathlib.Core.Logic.{inl, inr}
 use mathlib.Core.Bool.{Bool, true, false, not, ◌||◌}
 use mathlib.Core.List.{List, [], ◌∷◌, ◌++◌}
-use Prim.Native.Nat.{ℕ, zero, suc, ◌+◌, ◌-◌, ◌*◌, ◌/◌, ◌^◌, ◌<◌, ◌≤◌}
+use Prim.Native.Nat.{ℕ, zero, suc, ◌+◌, ◌*◌, ◌/◌, ◌^◌, ◌<◌, ◌≤◌}
 use native.Mathlib.Nat.{le_of_suc-le-suc, not-suc-le-zero, zero-add, mul-le-mul_right}
 use native.Mathlib.Decide.{ℕ_discrete, dec_lt}
 use native.Mathlib.Omega.{arith}
@@ -17,7 +17,7 @@ use Rattle.refusal.specs.Returned.{Returned}
 use Rattle.refusal.specs.Tests.{outside, any_outside, any_to, unequal, Within}
 use Rattle.refusal.proofs.Among.{refusal_among}
 use Rattle.refusal.proofs.Laws.{row_fits, row_passed, accepted_none, none_accepted, first_refused, first_accepted, both_accepted, accepted_both, when_accepted, when_refused}
-use Rattle.refusal.proofs.WalkLaws.{same_after}
+use Rattle.refusal.proofs.Laws.{same_after}
 use Rattle.refusal.proofs.Within.{or_left, or_right, or_true_right, inside_within, false_equal, equal_false, unequal_true}
 use Rattle.polar_code.specs.Code.{kind_of, message_count, message_places, layers_row, map_row, empty_row, coefs_row, code_of, IsCode}
 use Rattle.polar_code.specs.Sizes.{places_of, kernels_of}
@@ -26,7 +26,6 @@ use Rattle.polar_code.proofs.SizeLaws.{places_are, kernels_are}
 use Rattle.vector.specs.Vector.{tabulate}
 use Rattle.vector.proofs.Laws.{length_tabulate, get_d_tabulate}
 use Rattle.columns.specs.Reading.{spelled, part, is_line}
-use Rattle.columns.proofs.LineLaws.{lent_part}
 use Rattle.sheet.specs.CodeSheet.{bad_line, number_on, numbers_on, sheet_layers, sheet_places, sheet_kernels, sheet_lines, sheet_map, sheet_coefs, form_table, content_table, sheet_table, sheet_refusal, sheet_answer, map_read, coefs_read, SheetRead}
 use Rattle.std.proofs.Common.{Result, Ok, Err}
 use Rattle.refusal.specs.Kinds.{number_of, returned}
@@ -58,11 +57,6 @@ module _ (low high : ℕ) where
     pub numbers_inside : ((i : ℕ) → i < count → outside low high (number_on (first + i) bytes) ≡ false) → any_outside low high (numbers_on first count bytes) ≡ false
     unfolding numbers_on
     numbers_inside h = none_outside count (λ j. number_on (first + j) bytes) h
-
--- the number that the first four bytes spell is that on line 0
-pub first_number : (bytes : List ℕ) → spelled (take 4 bytes) ≡ number_on 0 bytes
-unfolding number_on part
-first_number bytes = ap spelled (sym (take-take 4 5 bytes (lit≤ tt)))
 
 -- where no number of a map is above 1, no place is a message place exactly where all of them are 1
 pub all_frozen : (map : List ℕ) → any_outside 0 1 map ≡ false → eqb (message_places map) 0 ≡ not (any_outside 1 1 map)

@@ -106,10 +106,6 @@ pub record Filled {A : Type 0} (n : ℕ) (f : ℕ → A) (xs : List A) (b : ℕ)
   pub entries : (d : A) (i : ℕ) → i < b → get_or xs i d ≡ f i
 
 module _ {A : Type 0} {n : ℕ} {f : ℕ → A} {xs : List A} where
-  -- where it begins
-  pub fill_none : length xs ≡ n → Filled n f xs 0
-  fill_none e = record { within = omega arith; long = e; entries = λ d i l. absurd (not-suc-le-zero l) }
-
   -- one entry more
   pub fill_more : {b : ℕ} {x : A} → Filled n f xs b → b < n → x ≡ f b → Filled n f (set xs b x) (b + 1)
   fill_more {b} {x} h l e = record { within = omega arith; long = length-set xs b x ∙ h.long; entries = λ d i s. go d i s (dec_lt i b) }

@@ -29,10 +29,6 @@ vector_entry_of d xs i b l = get_or-take 64 (drop (64 * i) xs) b d l ∙ get_or-
 pub vector_entry : (xs : List ℕ) (i b : ℕ) → b < 64 → get_or (vector_at xs i) b 0 ≡ get_or xs (64 * i + b) 0
 vector_entry = vector_entry_of 0
 
--- it is the list of those entries
-pub vector_by : (xs : List ℕ) (i : ℕ) → 64 * (i + 1) ≤ length xs → vector_at xs i ≡ tabulate 64 (λ b. get_or xs (64 * i + b) 0)
-vector_by xs i l = tabulate_by 0 64 (λ b. get_or xs (64 * i + b) 0) (vector_at xs i) (vector_long xs i l) (λ b k. vector_entry xs i b k)
-
 -- ---- parts of a slice, and slices joined
 
 -- the vectors of the first of two joined slices

@@ -6,7 +6,7 @@ use lib.ListN.{length}
 use Rattle.refusal.specs.Table.{refusal_of, NoneFits}
 use Rattle.refusal.specs.Rows.{length_row}
 use Rattle.refusal.proofs.Laws.{accepted_none, when_accepted, when_refused}
-use Rattle.refusal.proofs.WalkLaws.{numbered, same_after}
+use Rattle.refusal.proofs.Laws.{numbered, same_after}
 use Rattle.refusal.proofs.Within.{false_equal}
 use Rattle.columns.specs.Columns.{line}
 use Rattle.decoder_refusal.specs.Refusals.{above_row, zeros_row, penalty_table}

@@ -8,13 +8,13 @@ use lib.ListN.{length}
 use lib.Pow.{pow_mono}
 use Rattle.refusal.specs.Table.{refusal_of, Numbered}
 use Rattle.refusal.proofs.Laws.{accepted_none, none_accepted, when_accepted, when_refused}
-use Rattle.refusal.proofs.WalkLaws.{numbered}
+use Rattle.refusal.proofs.Laws.{numbered}
 use Rattle.refusal.proofs.Within.{false_equal, equal_false}
 use Rattle.columns.specs.Columns.{lines}
 use Rattle.columns.proofs.LinesLaws.{lines_append}
 use Rattle.polar_code.specs.Code.{Code, code_sizes, IsCode}
 use Rattle.polar_code.specs.Sizes.{places_of, kernels_of}
-use Rattle.polar_code.proofs.CodeLaws.{rows_code, sizes_of_code, code_bytes, after_both_sizes}
+use Rattle.polar_code.proofs.CodeLaws.{rows_code, sizes_of_code, code_bytes}
 use Rattle.writer.specs.CodeSheet.{sheet_length, sheet_of, output_rows, sheet_write_table, sheet_write_refusal}
 use Rattle.writer.specs.CodeSheet.{sheet_buffer, SheetWritten}
 use Rattle.writer.specs.Parts.{SheetRoom}
@@ -40,13 +40,6 @@ few_kernels code c =
     omega arith
 
 module _ (code : Code) (out : List ℕ) where
-  -- the rows as `write_refusal` tries them: with the sizes that `place_count` and `kernel_count` give
-  pub write_tried : {r : ℕ}
-      → r ≡ refusal_of (code_sizes code ++ output_rows code out (places_of code.n) (kernels_of code.n))
-      → r ≡ sheet_write_refusal code out
-  unfolding sheet_write_refusal
-  write_tried = after_both_sizes code (output_rows code out)
-
   -- no row has the number 0
   rows_numbered : Numbered (sheet_write_table code out)
   rows_numbered = numbered (sheet_write_table code out) tt

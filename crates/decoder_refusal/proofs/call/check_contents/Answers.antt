@@ -1,5 +1,5 @@
 -- The table in three parts, with the largest penalty that `largest` gives.
-use Rattle.std.proofs.Common.{ℕ, ◌++◌, ◌/◌, length, ap, ◌∙◌}
+use Rattle.std.proofs.Common.{ℕ, ◌++◌, ap, ◌∙◌}
 use Rattle.refusal.specs.Table.{refusal_of}
 use Rattle.refusal.proofs.KindLaws.{exit_number, part_refused, part_passed}
 use Rattle.polar_code.specs.Code.{code_table}

@@ -1,5 +1,4 @@
 -- Each vector before i has a 0, and in vector i no entry before b is 0.
-use Rattle.std.proofs.Common.{◌≡◌}
 use Rattle.decoder_refusal.proofs.RefusalLaws.{Scanned, Scanning}
 use Rattle.decoder_refusal.proofs.frame.any_without_zero.Given as goal
 

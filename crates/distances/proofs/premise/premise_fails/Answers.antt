@@ -1,5 +1,5 @@
 -- No product wraps: they are at most 127 × 255, and that times 64.
-use Rattle.std.proofs.Common.{◌≡◌, ◌*◌, ◌≤◌, ◌<◌}
+use Rattle.std.proofs.Common.{◌*◌, ◌≤◌}
 use native.Mathlib.Nat.{mul-le-mul}
 use native.Mathlib.Omega.{arith}
 use Rattle.distances.proofs.DistanceLaws.{least_few}

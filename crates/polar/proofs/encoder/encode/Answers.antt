@@ -1,7 +1,7 @@
 -- Past the table the parts are given what they ask for, and what they make is the codeword (EncodeLaws).
-use Rattle.std.proofs.Common.{◌≡◌, ◌∙◌, sym, subst, ap}
+use Rattle.std.proofs.Common.{◌∙◌, sym, subst, ap}
 use Rattle.refusal.proofs.KindLaws.{left_made}
-use Rattle.polar_code.specs.Code.{Code, code_of}
+use Rattle.polar_code.specs.Code.{Code}
 use Rattle.polar.specs.Encode.{encode_buffer, codeword_of, Encodable}
 use Rattle.polar.proofs.EncodeLaws.{accepted, placing, word_is_whole, whole_word}
 use Rattle.polar.proofs.encoder.encode.Goals as goal
@@ -13,8 +13,7 @@ place_message-requires c =
 
 pub transform_block-requires : goal.transform_block-requires
 transform_block-requires c =
-    let input = accepted _ _ _ (sym c.in_ok-check.ensures) in
-    (
+    let input = accepted _ _ _ (sym c.in_ok-check.ensures) in (
       word_is_whole _ _ _ (subst (λ (code : Code). Encodable code c.args.message.now c.args.codeword.now) (sym c.code.view_is) input) _ c.place_message.ensures,
       c.products-table.ensures,
     )

@@ -1,6 +1,6 @@
 -- What is written before place j, and the word that the map makes from j on of the symbols that are left, are the whole
 -- word.
-use Rattle.std.proofs.Common.{◌≡◌, ◌++◌, length, take, drop}
+use Rattle.std.proofs.Common.{◌≡◌, ◌++◌, take, drop}
 use Rattle.polar.specs.Encode.{word_before}
 use Rattle.polar.proofs.places.place_message.Given as goal
 

@@ -1,5 +1,4 @@
 -- One byte more, and what the least and the greatest say at the end.
-use Rattle.std.proofs.Common.{rules}
 use Rattle.refusal.proofs.Within.{ranged_more, ranged_all}
 use Rattle.refusal.proofs.limits.any_outside.Goals as goal
 

@@ -1,8 +1,7 @@
 -- A number outside, one that is not, and none.
-use Rattle.std.proofs.Common.{◌≡◌, ◌+◌, true, false, sym, ap, ◌∙◌, arith, rules}
+use Rattle.std.proofs.Common.{◌≡◌, true, false, sym, ap, ◌∙◌, arith, rules}
 use borrow.Author.Count.{below_more}
 use Rattle.refusal.specs.Tests.{outside}
-use Rattle.sheet.specs.CodeSheet.{number_on}
 use Rattle.sheet.proofs.SheetLaws.{number_outside, numbers_inside}
 use Rattle.sheet.proofs.check.any_number_outside.Goals as goal
 

@@ -1,6 +1,5 @@
 -- Fewer than five bytes, and the other rows (SheetLaws).
-use Rattle.std.proofs.Common.{◌≡◌, ◌<◌, length, ap, rules, ◌∙◌}
-use native.Mathlib.Omega.{arith}
+use Rattle.std.proofs.Common.{◌<◌, length, ap, rules, ◌∙◌}
 use Rattle.refusal.specs.Kinds.{number_of}
 use Rattle.refusal.proofs.KindLaws.{exit_number}
 use Rattle.sheet.proofs.SheetLaws.{form_short, form_tried}

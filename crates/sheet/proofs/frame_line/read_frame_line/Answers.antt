@@ -1,5 +1,5 @@
 -- Past the table the line is of the right form, and there is room for its numbers.
-use Rattle.std.proofs.Common.{not, sym}
+use Rattle.std.proofs.Common.{sym}
 use borrow.Author.Tests.{not-false}
 use Rattle.refusal.proofs.Laws.{accepted_none}
 use Rattle.refusal.proofs.Within.{false_equal}

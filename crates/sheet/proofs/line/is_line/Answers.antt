@@ -1,5 +1,5 @@
 -- Another length, a part that is no number, and all numbers.
-use Rattle.std.proofs.Common.{◌≡◌, ap, sym, ◌∙◌}
+use Rattle.std.proofs.Common.{ap, sym, ◌∙◌}
 use native.Mathlib.Omega.{arith}
 use Rattle.refusal.proofs.Within.{true_false}
 use Rattle.columns.specs.Reading.{is_field, is_line}
