@@ -16,7 +16,7 @@ use Rattle.refusal.specs.Tests.{outside, any_outside, any_to, unequal}
 use Rattle.refusal.specs.Kinds.{number_of}
 use Rattle.refusal.specs.declared.kinds.Refusal.{Refusal}
 use Rattle.refusal.proofs.KindLaws.{part_refused}
-use Rattle.refusal.proofs.Laws.{accepted_none, none_accepted, first_refused, first_accepted}
+use Rattle.refusal.proofs.Laws.{accepted_none, none_accepted, first_accepted}
 use Rattle.refusal.proofs.Among.{refusal_among, not_among}
 use Rattle.refusal.proofs.Within.{or_left, or_right, none_within, equal_false, unequal_true}
 use Rattle.refusal.proofs.AnyTo.{each_not, any_ext}

@@ -6,16 +6,15 @@ use native.Mathlib.Nat.{mul-le-mul_right}
 use native.Mathlib.Omega.{arith}
 use lib.ListN.{length}
 use lib.Pow.{pow_mono}
-use Rattle.refusal.specs.Table.{refusal_of, Numbered}
+use Rattle.refusal.specs.Table.{Numbered}
 use Rattle.refusal.proofs.Laws.{accepted_none, none_accepted, when_accepted, when_refused}
 use Rattle.refusal.proofs.Laws.{numbered}
 use Rattle.refusal.proofs.Within.{false_equal, equal_false}
 use Rattle.columns.specs.Columns.{lines}
 use Rattle.columns.proofs.LinesLaws.{lines_append}
-use Rattle.polar_code.specs.Code.{Code, code_sizes, IsCode}
-use Rattle.polar_code.specs.Sizes.{places_of, kernels_of}
+use Rattle.polar_code.specs.Code.{Code, IsCode}
 use Rattle.polar_code.proofs.CodeLaws.{rows_code, sizes_of_code, code_bytes}
-use Rattle.writer.specs.CodeSheet.{sheet_length, sheet_of, output_rows, sheet_write_table, sheet_write_refusal}
+use Rattle.writer.specs.CodeSheet.{sheet_length, sheet_of, sheet_write_table, sheet_write_refusal}
 use Rattle.writer.specs.CodeSheet.{sheet_buffer, SheetWritten}
 use Rattle.writer.specs.Parts.{SheetRoom}
 

@@ -55,26 +55,22 @@ fn write_code(code: &Code, out: &mut [u8])
 }
 
 // Goes down the table of `write_sheet`, in document 01's order.
-#[tactic(auto, using(refusal::proofs::KindLaws::number_nonzero), unfolding(
-    refusal::specs::Table::refusal_of,
-    refusal::specs::Tests::unequal,
-    crate::specs::CodeSheet::sheet_write_refusal
-))]
+#[tactic(auto, using(refusal::proofs::KindLaws::number_nonzero), unfolding(refusal::specs::Table::refusal_of, refusal::specs::Tests::unequal, crate::specs::CodeSheet::sheet_write_refusal))]
 fn check(code: &Code, out: &[u8]) -> Result<(), Refusal>
     ensures { number result ≡ sheet_write_refusal code.now out.now }
 {
     code.check_sizes()?;
-    require(out.len() == LINE * (1 + code.map.len() + code.coefs.len()), Refusal::Length)?;
+    require(
+        out.len() == LINE * (1 + code.map.len() + code.coefs.len()),
+        Refusal::Length,
+    )?;
     code.check_bytes()
 }
 
 // Writes the sheet of a code into a buffer of just its length, 5 × (1 + N + n × N/2) bytes, for any code and any buffer:
 // n, the N map bytes and the n × N/2 coefficients, each on a line of its own. Refuses by the lowest of Layers (1),
 // Length (2), MapByte (4), NoMessagePlace (5) and Coefficient (6) that fits, and leaves the buffer as it came.
-#[tactic(auto, using(
-    refusal::proofs::KindLaws::left_kept,
-    refusal::proofs::KindLaws::left_made
-), unfolding(crate::specs::CodeSheet::sheet_buffer))]
+#[tactic(auto, using(refusal::proofs::KindLaws::left_kept, refusal::proofs::KindLaws::left_made), unfolding(crate::specs::CodeSheet::sheet_buffer))]
 pub fn write_sheet(code: &Code, out: &mut [u8]) -> Result<(), Refusal>
     ensures { SheetWritten code.now out.old out.new (number result) }
 {

@@ -34,11 +34,7 @@ fn write_llrs(llrs: &[u16], out: &mut [u8])
 }
 
 // Goes down the table of `write_frame_line`, in document 01's order.
-#[tactic(auto, unfolding(
-    refusal::specs::Table::refusal_of,
-    refusal::specs::Tests::unequal,
-    crate::specs::FrameLine::line_write_refusal
-))]
+#[tactic(auto, unfolding(refusal::specs::Table::refusal_of, refusal::specs::Tests::unequal, crate::specs::FrameLine::line_write_refusal))]
 fn check(llrs: &[u16], out: &[u8]) -> Result<(), Refusal>
     ensures { number result ≡ line_write_refusal llrs.now out.now }
 {
@@ -51,10 +47,7 @@ fn check(llrs: &[u16], out: &[u8]) -> Result<(), Refusal>
 // buffer of just its 257 bytes, for any penalties and any buffer. Refuses by the lowest that fits of Length (2) for other
 // than 64 penalties or other than 257 bytes, Penalty (8) for a penalty above 31 (Qc = 5) and NoZero (9) for no 0 among
 // them, and leaves the buffer as it came.
-#[tactic(auto, using(
-    refusal::proofs::KindLaws::left_kept,
-    refusal::proofs::KindLaws::left_made
-), unfolding(crate::specs::FrameLine::line_buffer))]
+#[tactic(auto, using(refusal::proofs::KindLaws::left_kept, refusal::proofs::KindLaws::left_made), unfolding(crate::specs::FrameLine::line_buffer))]
 pub fn write_frame_line(llrs: &[u16], line: &mut [u8]) -> Result<(), Refusal>
     ensures { LineWritten llrs.now line.old line.new (number result) }
 {
