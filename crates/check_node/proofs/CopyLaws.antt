@@ -8,10 +8,6 @@ use Rattle.reorder.specs.Order.{swapped}
 use Rattle.reorder.proofs.SwapLaws.{swapped_at, swapped_long}
 use Rattle.check_node.specs.Steps.{AreCopies}
 
--- no copy yet
-pub copies_none : {v w : List ℕ} → length w ≡ 512 → AreCopies 0 v w
-copies_none e = record { long = e; copy = λ k l. absurd (omega arith) }
-
 -- one copy more
 pub copies_more : {v w after u : List ℕ} (n : ℕ) → AreCopies n v w → n < 8 → after ≡ stored w n u → u ≡ swapped v n → AreCopies (n + 1) v after
 copies_more {v} {w} {after} {u} n h l e f =

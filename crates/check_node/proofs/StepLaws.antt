@@ -115,19 +115,6 @@ pub record LanesMapped (f : ℕ → ℕ → ℕ) (half n : ℕ) (before after : 
   pub rest : (b : ℕ) → b / 32 ≡ half → n ≤ b % 8 → get_or after b 0 ≡ get_or before b 0
   pub other : (b : ℕ) → (b / 32 ≡ half → ⊥) → get_or after b 0 ≡ get_or before b 0
 
--- where it begins
-pub lanes_none : {f : ℕ → ℕ → ℕ} {half : ℕ} {before : List ℕ} → length before ≡ 64 → LanesMapped f half 0 before before
-lanes_none e = record { long = e; done = λ b h l. absurd (omega arith); rest = λ b h l. refl; other = λ b h. refl }
-
--- where it ends
-pub lanes_all : {f : ℕ → ℕ → ℕ} {half n : ℕ} {before after : List ℕ} → LanesMapped f half n before after → n ≡ 8 → Mapped f (32 * half) (32 * half + 32) before after
-lanes_all h e = record {
-  long = h.long;
-  done = λ b p q. h.done b (omega arith) (omega arith);
-  earlier = λ b p. h.other b (λ z. absurd (omega arith));
-  later = λ b p. h.other b (λ z. absurd (omega arith));
-}
-
 -- a turn: one entry more of each block
 lanes_more : {f : ℕ → ℕ → ℕ} {half n : ℕ} {before after next : List ℕ} → LanesMapped f half n before after → half < 2 → n < 8 → length next ≡ 64
     → ((k : ℕ) → k < 4 → get_or next (32 * half + n + 8 * k) 0 ≡ f (32 * half + n + 8 * k) (get_or before (32 * half + n + 8 * k) 0))
