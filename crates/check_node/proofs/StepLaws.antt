@@ -115,7 +115,6 @@ pub record LanesMapped (f : ℕ → ℕ → ℕ) (half n : ℕ) (before after : 
   pub rest : (b : ℕ) → b / 32 ≡ half → n ≤ b % 8 → get_or after b 0 ≡ get_or before b 0
   pub other : (b : ℕ) → (b / 32 ≡ half → ⊥) → get_or after b 0 ≡ get_or before b 0
 
-
 -- a turn: one entry more of each block
 lanes_more : {f : ℕ → ℕ → ℕ} {half n : ℕ} {before after next : List ℕ} → LanesMapped f half n before after → half < 2 → n < 8 → length next ≡ 64
     → ((k : ℕ) → k < 4 → get_or next (32 * half + n + 8 * k) 0 ≡ f (32 * half + n + 8 * k) (get_or before (32 * half + n + 8 * k) 0))

@@ -30,9 +30,7 @@ pub struct Lowered {
     pub taken: u16,
 }
 
-// Each of the 64 entries less the least of them, and that least. It is laid out where it is called, so that the vector
-// stays in registers.
-#[inline(always)]
+// Each of the 64 entries less the least of them, and that least.
 pub fn subtract_least(v: &[u16; 64]) -> Lowered
     ensures { (result.rest ≡ less_least v.now) × (result.taken ≡ least v.now) }
 {
