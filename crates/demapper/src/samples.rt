@@ -15,16 +15,11 @@ fn hard_chip(sample: i8) -> u16
 
 // The magnitude of a sample; that of -128, a lost sample, is 0. The remainder changes no other: with a test for -128 in
 // its place a sample costs three instructions more.
+#[tactic(auto, using(crate::proofs::SignedLaws::sized))]
 fn magnitude(sample: i8) -> u16
     ensures { (result ≡ magnitude sample) × (result ≤ 127) }
 {
-    let wide = sample as i16;
-    if wide < 0 {
-        let size = (0 - wide) as u16;
-        size % 128
-    } else {
-        wide as u16
-    }
+    u16::from(sample.unsigned_abs()) % 128
 }
 
 // What a sample adds to the raw penalty of a symbol with this chip there: its size where its hard chip is the other
