@@ -52,16 +52,6 @@ mask_without (suc n) f g h p =
     let low = ap₂ differ fl gl ∙ differ_part (f 0) (g 0) l m in
     omega arith
 
--- it has n bits
-pub mask_lt : (n : ℕ) (f : ℕ → ℕ) → Flags f → mask_of n f < 2 ^ n
-unfolding mask_of
-mask_lt zero f h = omega arith
-mask_lt (suc n) f h =
-    let a = mask_lt n (λ i. f (suc i)) (λ i. h (suc i)) in
-    let b = h 0 in
-    let e = pow-suc 2 n in
-    omega arith
-
 -- a number's lowest m bits, and the others
 mask_split : (m n : ℕ) (f : ℕ → ℕ) → mask_of (m + n) f ≡ mask_of m f + 2 ^ m * mask_of n (λ i. f (m + i))
 unfolding mask_of
