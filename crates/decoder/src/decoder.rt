@@ -15,7 +15,12 @@ use refusal::Refusal;
 // the work buffer, of 65 N numbers, all zeros. Refuses by the first of Layers (1), Length (2), Precision (3), Candidates
 // (13), MapByte (4), NoMessagePlace (5), Coefficient (6), Penalty (8) and NoZero (9) that fits, in this order, and leaves
 // every buffer as it came.
-pub fn decode(code: &Code, settings: Settings, frame: &[u16], lent: Lent<'_>) -> Result<u32, Refusal>
+pub fn decode(
+    code: &Code,
+    settings: Settings,
+    frame: &[u16],
+    lent: Lent<'_>,
+) -> Result<u32, Refusal>
     ensures { Decoded code.now settings frame.now (lent_now lent.entry) (lent_after lent.exit) result }
 {
     check(code, settings, frame, &lent)?;

@@ -1,5 +1,5 @@
 -- Which numbers the parts of the program can print.
-use mathlib.Core.Path.{◌≡◌, sym, ap, ◌∙◌, subst}
+use mathlib.Core.Path.{◌≡◌, sym, ◌∙◌, subst}
 use mathlib.Core.List.{List, [], ◌∷◌}
 use Prim.Native.Nat.{ℕ, ◌+◌, ◌*◌, ◌/◌, ◌%◌, ◌≤◌, ◌<◌}
 use native.Mathlib.Omega.{arith}
@@ -7,9 +7,9 @@ use native.Mathlib.Nat.{le_of_eq}
 use lib.ListN.{length, get_or}
 use Rattle.vector.specs.Frame.{IsFrame}
 use Rattle.vector.proofs.SliceLaws.{vector_entry}
-use Rattle.std.proofs.Common.{Result, Err}
+use Rattle.std.proofs.Common.{Result}
 use Rattle.refusal.specs.Table.{OneOf}
-use Rattle.refusal.specs.Kinds.{number_of, returned}
+use Rattle.refusal.specs.Kinds.{returned}
 use Rattle.refusal.specs.declared.kinds.Refusal.{Refusal}
 use Rattle.refusal.proofs.Among.{wider}
 use Rattle.polar_code.specs.Code.{Code}
@@ -49,9 +49,8 @@ not_refused {code} {frame} {output} g p =
     })
 
 -- the sheet reader's, with buffers that have room for every code
-pub sheet_printed : {bytes map coefs m c : List ℕ} {a : Result ℕ Refusal} {refusal : Refusal} → SheetRead bytes map coefs m c a
-    → a ≡ Err refusal → 256 ≡ length map → 1024 ≡ length coefs → Printed (number_of refusal)
-sheet_printed {bytes} {map} {coefs} read is room space =
-    wider _ (0 ∷ 1 ∷ 4 ∷ 5 ∷ 6 ∷ 12 ∷ []) (0 ∷ 1 ∷ 4 ∷ 5 ∷ 6 ∷ 8 ∷ 9 ∷ 12 ∷ []) tt
-    (subst (λ (k : ℕ). OneOf k (0 ∷ 1 ∷ 4 ∷ 5 ∷ 6 ∷ 12 ∷ [])) (sym (number_read read) ∙ ap (λ (a : Result ℕ Refusal). (returned a).number) is)
-    (sheet_numbered bytes map coefs (le_of_eq room) (le_of_eq space)))
+pub sheet_printed : {bytes map coefs m c : List ℕ} {a : Result ℕ Refusal} → SheetRead bytes map coefs m c a → 256 ≡ length map
+    → 1024 ≡ length coefs → (r : ℕ) → r ≡ (returned a).number → Printed r
+sheet_printed {bytes} {map} {coefs} read room space r e =
+    wider r (0 ∷ 1 ∷ 4 ∷ 5 ∷ 6 ∷ 12 ∷ []) (0 ∷ 1 ∷ 4 ∷ 5 ∷ 6 ∷ 8 ∷ 9 ∷ 12 ∷ []) tt
+    (subst (λ (k : ℕ). OneOf k (0 ∷ 1 ∷ 4 ∷ 5 ∷ 6 ∷ 12 ∷ [])) (sym (e ∙ number_read read)) (sheet_numbered bytes map coefs (le_of_eq room) (le_of_eq space)))

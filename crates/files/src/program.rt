@@ -1,16 +1,28 @@
 // The program: the code sheet, then the frame.
-ghost use Rattle.std.specs.Prelude.{◌≤◌, length};
+ghost use Rattle.std.specs.Prelude.{◌≡◌, ◌≤◌, length};
+ghost use Rattle.refusal.specs.Kinds.{returned};
 ghost use Rattle.files.specs.Printed.{Printed};
 
 use crate::frame::run_frame;
 use crate::print::print_refusal;
 use crate::read::{open_some, read_some};
 use polar_code::{Code, kernel_count, place_count};
+use refusal::Refusal;
 use std::rt::Files;
 
 // The bytes of a sheet that are read: one more than those of the longest sheet that is accepted. The first so many of a
 // longer one get the same verdict as all of it.
 const SHEET_BYTES: usize = 6406;
+
+// The number of an answer of the sheet reader: that of the refusal, 0 for a sheet that was accepted.
+fn refused_by(answer: Result<usize, Refusal>) -> u8
+    ensures { result ≡ (returned answer).number }
+{
+    match answer {
+        Ok(_) => 0,
+        Err(refusal) => u8::from(refusal),
+    }
+}
 
 // Reads a file, as far as buf goes, and returns how many bytes were read: none where it can't be opened.
 fn read_code<R: Files>(rt: &R, name: &[u8], buf: &mut [u8]) -> usize
@@ -30,9 +42,9 @@ pub fn run<R: Files + Print>(rt: &R, code_name: &[u8], frame_name: &[u8]) -> u8
     let mut map = [0u8; 256];
     let mut coefs = [0u8; 1024];
     let got = read_code(rt, code_name, &mut bytes);
-    let n = match sheet::read_sheet(&bytes[..got], &mut map, &mut coefs) {
-        Ok(n) => n,
-        Err(refusal) => return print_refusal(rt, u8::from(refusal)),
+    let answer = sheet::read_sheet(&bytes[..got], &mut map, &mut coefs);
+    let Ok(n) = answer else {
+        return print_refusal(rt, refused_by(answer));
     };
     let code = Code {
         n,

@@ -50,8 +50,7 @@ slice_bounds-decode_block-end c =
 
 pub decode_block-count-requires : goal.decode_block-count-requires
 decode_block-count-requires c =
-    let t = subst (λ (code : Code). Decodable code c.args.settings c.args.frame.now (lent_now c.args.lent)) (sym c.code.view_is) (accepted _ _ _ _ (sym c.in_ok-check.ensures)) in
-    (
+    let t = subst (λ (code : Code). Decodable code c.args.settings c.args.frame.now (lent_now c.args.lent)) (sym c.code.view_is) (accepted _ _ _ _ (sym c.in_ok-check.ensures)) in (
       whole_given _ _ _ _ t (length-take-le (length c.code.inside.map.now) (replicate 256 0) (few t) ∙ t.is_code.map_long) (cap_is t c.largest.ensures)
           (le_trans (le_of_eq c.largest.ensures) (largest_most c.args.settings.qm)),
       c.products-table.ensures,

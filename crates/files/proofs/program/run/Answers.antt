@@ -4,20 +4,19 @@ use Rattle.polar_code.specs.Code.{code_of, IsCode}
 use Rattle.polar_code.proofs.SizeLaws.{places_are, kernels_are}
 use Rattle.sheet.specs.CodeSheet.{SheetRead}
 use Rattle.sheet.proofs.SheetLaws.{code_read}
-use Rattle.files.specs.Printed.{Printed}
 use Rattle.files.proofs.PrintedLaws.{sheet_printed}
 use Rattle.files.proofs.program.run.Goals as goal
 
-pub returns-in-Err : goal.returns-in-Err
-returns-in-Err g c =
-    subst Printed (sym (c.print_refusal.ensures ∙ c.from.ensures)) (sheet_printed c.read_sheet.ensures c.in-Err.is (search rules) (search rules))
+pub returns-in_default : goal.returns-in_default
+returns-in_default g c =
+    sheet_printed c.read_sheet-answer.ensures (search rules) (search rules) c.print_refusal.result (c.print_refusal.ensures ∙ c.refused_by.ensures)
 
 pub run_frame-requires : goal.run_frame-requires
 run_frame-requires g c =
     let n = c.in-Ok.n in
-    let map = c.read_sheet.new.map in
-    let coefs = c.read_sheet.new.coefs in
-    let code = code_read (subst (SheetRead _ _ _ map coefs) c.in-Ok.is c.read_sheet.ensures) in
+    let map = c.read_sheet-answer.new.map in
+    let coefs = c.read_sheet-answer.new.coefs in
+    let code = code_read (subst (SheetRead _ _ _ map coefs) c.in-Ok.is c.read_sheet-answer.ensures) in
     let size = c.place_count.ensures.value ∙ places_are n code.layers.most in
     let count = c.kernel_count.ensures.value ∙ kernels_are n code.layers.most in
     subst (λ (k : ℕ). IsCode (code_of n (take k map) (take c.kernel_count.result coefs))) (sym size)
