@@ -3,3 +3,4 @@ pub mod KindLaws
 pub mod Within
 pub mod AnyTo
 pub mod Among
+pub mod WalkLaws

@@ -1,5 +1,4 @@
--- An answer in document 01's terms, for calls that answer with an enum: such a call has a definition that gives it for
--- each of the enum's cases.
+-- An answer in document 01's terms. Kinds.returned and returned_flag give it for a call's result.
 use Rattle.std.specs.Prelude.{ℕ, List}
 
 -- the number returned, and the values beside the buffers. The number is 0, which no row of a table has, where the call

@@ -26,7 +26,7 @@ pub record Mapped (f : ℕ → ℕ → ℕ) (lo n : ℕ) (before after : List �
   pub earlier : (b : ℕ) → b < lo → get_or after b 0 ≡ get_or before b 0
   pub later : (b : ℕ) → n ≤ b → get_or after b 0 ≡ get_or before b 0
 
--- what `part_replaced` leaves of a vector: with the `count` entries from `first` on replaced, or as it was where a
+-- what `replace_part` leaves of a vector: with the `count` entries from `first` on replaced, or as it was where a
 -- part is missing
 pub record PartReplaced (v : List ℕ) (from run : ℕ) (to : List ℕ) (first count : ℕ) (r : List ℕ) : Type 0 where
   pub replaced : length to ≡ 64 → first + count ≤ 64 → from + count ≤ 64
