@@ -29,8 +29,8 @@ fn write_numbers(base: u64, symbols: &[u8], numbers: &mut [u64])
 }
 
 // Spreads symbols to chips: each is sent as the base turned by its value, one 64-bit number a symbol, whose chip k is
-// bit k. The numbers are then in the buffer lent for them. Refuses by the lowest of Length (2), Symbol (7) and Base (10)
-// that fits, and leaves the buffer as it came.
+// bit k. The numbers are then in the buffer lent for them. Refuses by the lowest of Length (2), Symbol (7) and Base
+// (10) that fits, and leaves the buffer as it came.
 #[tactic(auto, using(crate::proofs::SpreadLaws::accepted, refusal::proofs::KindLaws::left_kept, refusal::proofs::KindLaws::left_made), unfolding(crate::specs::Spread::spread_buffer))]
 pub fn spread(base: u64, symbols: &[u8], numbers: &mut [u64]) -> Result<(), Refusal>
     ensures { Spread base symbols.now numbers.old numbers.new (number result) }

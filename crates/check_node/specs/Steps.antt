@@ -45,8 +45,8 @@ step held d w = signed_min (wrapped (held + d)) w
 unfoldable pub four_steps : (d0 d1 d2 d3 w0 w1 w2 w3 held : ℕ) → ℕ
 four_steps d0 d1 d2 d3 w0 w1 w2 w3 held = step (step (step (step held d0 w0) d1 w1) d2 w2) d3 w3
 
--- the entries at `at`, 8 further and so on, the first `count` of them, after four steps by the differences d: block k's is
--- compared with the four numbers w in the order k, k ⊕ 1, k ⊕ 2, k ⊕ 3. All other entries are as they were
+-- the entries at `at`, 8 further and so on, the first `count` of them, after four steps by the differences d: block k's
+-- is compared with the four numbers w in the order k, k ⊕ 1, k ⊕ 2, k ⊕ 3. All other entries are as they were
 pub record LaneMapped (d w : List ℕ) (at count : ℕ) (before after : List ℕ) : Type 0 where
   pub long : length after ≡ 64
   pub done : (k : ℕ) → k < count → slice_index after (at + 8 * k)

@@ -27,7 +27,8 @@ fn step(held: u16, d: u16, w: u16) -> u16
 
 // Four steps for one value.
 fn four_steps(held: u16, d: &[u16; 4], w: &[u16; 4]) -> u16
-    ensures { result ≡ four_steps (slice_index d.now 0) (slice_index d.now 1) (slice_index d.now 2) (slice_index d.now 3)
+    ensures { result ≡ four_steps
+        (slice_index d.now 0) (slice_index d.now 1) (slice_index d.now 2) (slice_index d.now 3)
         (slice_index w.now 0) (slice_index w.now 1) (slice_index w.now 2) (slice_index w.now 3) held }
 {
     d.iter()

@@ -12,9 +12,9 @@ use refusal::Refusal;
 // count of clipped entries, with the symbols of the N places, the report (the 64 penalties held for each place when it
 // was decided) and the totals (for each place what was taken off along its line: with 64 candidates and in an unclipped
 // frame the least total of all words that begin with the symbols decided before it) in the buffers lent for them, and
-// the work buffer, of 65 N numbers, all zeros. Refuses by the first of Layers (1), Length (2), Precision (3), Candidates
-// (13), MapByte (4), NoMessagePlace (5), Coefficient (6), Penalty (8) and NoZero (9) that fits, in this order, and leaves
-// every buffer as it came.
+// the work buffer, of 65 N numbers, all zeros. Refuses by the first of Layers (1), Length (2), Precision (3),
+// Candidates (13), MapByte (4), NoMessagePlace (5), Coefficient (6), Penalty (8) and NoZero (9) that fits, in this
+// order, and leaves every buffer as it came.
 pub fn decode(
     code: &Code,
     settings: Settings,

@@ -43,8 +43,8 @@ zeros_row places frame = (9, any_to places (λ i. no_zero (vector_at frame i)))
 abbrev pub penalty_table : (most : ℕ) → List ℕ → List Row
 penalty_table most frame = above_row most frame ∷ zeros_row (length frame / 64) frame ∷ []
 
--- what a caller of `decode` sets beside the code (src/settings.rt): the precisions Qc and Qm, and how many values a check
--- node tries (the papers' m)
+-- what a caller of `decode` sets beside the code (src/settings.rt): the precisions Qc and Qm, and how many values a
+-- check node tries (the papers' m)
 abbrev pub Settings : Type 0
 Settings = declared.Settings
 

@@ -26,7 +26,8 @@ fn check_sizes(code: &Code, frame: &[u16], lent: &Lent) -> Result<(), Refusal>
 
 // Goes down the rows on the settings and on what the map, the coefficients and the frame hold.
 fn check_contents(code: &Code, settings: Settings, frame: &[u16]) -> Result<(), Refusal>
-    ensures { number result ≡ refusal_of (content_table (length frame.now / 64) code.now.map code.now.coefs settings frame.now) }
+    ensures { number result ≡ refusal_of
+        (content_table (length frame.now / 64) code.now.map code.now.coefs settings frame.now) }
 {
     settings.check()?;
     code.check_bytes()?;

@@ -55,8 +55,8 @@ fn write_llrs(base: u64, samples: &[i8], gain: Gain, qc: u32, llrs: &mut [u16])
 // Weighs samples, 64 to a symbol: for each symbol the 64 penalties of its values. Each is the sum of the magnitudes of
 // the samples whose hard chip differs from the value's chip, less the least of the 64, times the gain, rounded down,
 // capped at 2^Qc - 1. A sample of -128 is a lost one: its magnitude is 0, and it adds nothing for any value. The
-// penalties are then in the buffer lent for them. Refuses by the lowest of Length (2), Precision (3), Base (10) and Gain
-// (11) that fits, and leaves the buffer as it came.
+// penalties are then in the buffer lent for them. Refuses by the lowest of Length (2), Precision (3), Base (10) and
+// Gain (11) that fits, and leaves the buffer as it came.
 #[tactic(auto, using(refusal::proofs::KindLaws::left_kept, refusal::proofs::KindLaws::left_made), unfolding(crate::specs::Demap::demap_buffer))]
 pub fn demap(
     base: u64,

@@ -28,9 +28,9 @@ fn first_tried(a: u8, b: u8) -> u8
     }
 }
 
-// Reads a line into the output, and refuses by Length (2) an output of other than 64 numbers, by Form (12) bytes that are
-// not a line, and by Penalty (8) and NoZero (9) penalties that are none at Qc = 5. A line of the right form leaves its
-// numbers in the output, any other leaves it as it came.
+// Reads a line into the output, and refuses by Length (2) an output of other than 64 numbers, by Form (12) bytes that
+// are not a line, and by Penalty (8) and NoZero (9) penalties that are none at Qc = 5. A line of the right form leaves
+// its numbers in the output, any other leaves it as it came.
 fn read_line(line: &[u8], llrs: &mut [u16]) -> Result<(), Refusal>
     ensures refusal { number result ≡ line_verdict (length llrs.old) line.now }
     ensures output { llrs.new ≡ line_output line.now llrs.old }

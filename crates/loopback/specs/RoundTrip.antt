@@ -15,11 +15,14 @@ use Rattle.loopback.specs.Refusals.{TripLent, trip_lent_of, trip_refusal}
 
 -- the buffers lent to `round_trip` when it returns, in their order
 abbrev Exit : Type 0
-Exit = MutBor (List ℤ) × (MutBor (List ℕ) × (MutBor (List ℕ) × (MutBor (List ℕ) × (MutBor (List ℕ) × (MutBor (List ℕ) × (MutBor (List ℕ) × Unit {0}))))))
+Exit =
+    MutBor (List ℤ) × (MutBor (List ℕ) × (MutBor (List ℕ) × (MutBor (List ℕ)
+    × (MutBor (List ℕ) × (MutBor (List ℕ) × (MutBor (List ℕ) × Unit {0}))))))
 
 -- what they hold
 abbrev pub trip_after : Exit → TripLent
-trip_after l = trip_lent_of l.0.now l.1.0.now l.1.1.0.now l.1.1.1.0.now l.1.1.1.1.0.now l.1.1.1.1.1.0.now l.1.1.1.1.1.1.0.now
+trip_after l =
+    trip_lent_of l.0.now l.1.0.now l.1.1.0.now l.1.1.1.0.now l.1.1.1.1.0.now l.1.1.1.1.1.0.now l.1.1.1.1.1.1.0.now
 
 module _ (s : Transmission) (r : Reception) (lent : TripLent) where
   -- the number of the refusal, 0 where the call is accepted

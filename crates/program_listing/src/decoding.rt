@@ -64,11 +64,11 @@ fn list_frame(code: &Code, frame: &[u16], output: &mut [u8])
     list_decoded(code, frame, lent, output);
 }
 
-// What the program prints for a frame of a code: decodes the frame, 64 penalties for each of the N places, at Qc = 5 and
-// Qm = 13, and writes into a buffer of just 21 N + 6 bytes a line for each place in rising order (place, symbol, penalty
-// held for that symbol, least penalty held for any other value, in five columns each) and last a line with the count of
-// clipped entries. Refuses by the first of Layers (1), Length (2), MapByte (4), NoMessagePlace (5), Coefficient (6),
-// Penalty (8) and NoZero (9) that fits, in this order, and then the buffer is as it came.
+// What the program prints for a frame of a code: decodes the frame, 64 penalties for each of the N places, at Qc = 5
+// and Qm = 13, and writes into a buffer of just 21 N + 6 bytes a line for each place in rising order (place, symbol,
+// penalty held for that symbol, least penalty held for any other value, in five columns each) and last a line with the
+// count of clipped entries. Refuses by the first of Layers (1), Length (2), MapByte (4), NoMessagePlace (5),
+// Coefficient (6), Penalty (8) and NoZero (9) that fits, in this order, and then the buffer is as it came.
 #[tactic(auto, using(refusal::proofs::KindLaws::left_kept, refusal::proofs::KindLaws::left_made), unfolding(crate::specs::Listing::listing_buffer))]
 pub fn decode_listing(code: &Code, frame: &[u16], output: &mut [u8]) -> Result<(), Refusal>
     ensures { Listed code.now frame.now output.old output.new (number result) }

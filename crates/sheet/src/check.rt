@@ -82,7 +82,8 @@ pub(crate) fn check_form(bytes: &[u8]) -> Result<usize, Refusal>
 }
 
 // Goes down the rows on the lengths of the buffers and on the numbers of the map and the coefficients, for this many
-// places and kernels. Where no number of the map is above 1, no place is a message place exactly when all of them are 1.
+// places and kernels. Where no number of the map is above 1, no place is a message place exactly when all of them are
+// 1.
 #[tactic(auto, unfolding(refusal::specs::Table::refusal_of))]
 fn check_numbers(
     bytes: &[u8],

@@ -17,11 +17,11 @@ fn write_numbers(bytes: &[u8], first: usize, out: &mut [u8])
     }
 }
 
-// Reads a code sheet, for any bytes and any buffers. Answers n, with the N bytes of the map and the n × N/2 coefficients
-// at the start of the two buffers and what comes after these as it was. Refuses, and leaves both buffers as they came,
-// by Form (12) for fewer than 5 bytes or a bad first line; Layers (1) for n outside 1 to 8; Form for a wrong total
-// length or a bad line; Length (2) for a buffer that is too short; then MapByte (4), NoMessagePlace (5) and Coefficient
-// (6).
+// Reads a code sheet, for any bytes and any buffers. Answers n, with the N bytes of the map and the n × N/2
+// coefficients at the start of the two buffers and what comes after these as it was. Refuses, and leaves both buffers
+// as they came, by Form (12) for fewer than 5 bytes or a bad first line; Layers (1) for n outside 1 to 8; Form for a
+// wrong total length or a bad line; Length (2) for a buffer that is too short; then MapByte (4), NoMessagePlace (5) and
+// Coefficient (6).
 pub fn read_sheet(bytes: &[u8], map: &mut [u8], coefs: &mut [u8]) -> Result<usize, Refusal>
     ensures { SheetRead bytes.now map.old coefs.old map.new coefs.new result }
 {

@@ -29,8 +29,8 @@ fn write_llrs(line: &[u8], llrs: &mut [u16])
 }
 
 // Reads one line of a frame file, 64 numbers in four columns each and a line feed, for any bytes and any output. The
-// numbers are then in the output. Refuses by Length (2) an output of other than 64 numbers, else by Form (12) bytes that
-// are not such a line, and leaves the output as it came.
+// numbers are then in the output. Refuses by Length (2) an output of other than 64 numbers, else by Form (12) bytes
+// that are not such a line, and leaves the output as it came.
 #[tactic(auto, using(refusal::proofs::KindLaws::left_kept, refusal::proofs::KindLaws::left_made), unfolding(crate::specs::FrameLine::line_output, crate::specs::FrameLine::line_llrs))]
 pub fn read_frame_line(line: &[u8], llrs: &mut [u16]) -> Result<(), Refusal>
     ensures { LineRead line.now llrs.old llrs.new (number result) }

@@ -67,9 +67,9 @@ fn check(code: &Code, out: &[u8]) -> Result<(), Refusal>
     code.check_bytes()
 }
 
-// Writes the sheet of a code into a buffer of just its length, 5 × (1 + N + n × N/2) bytes, for any code and any buffer:
-// n, the N map bytes and the n × N/2 coefficients, each on a line of its own. Refuses by the lowest of Layers (1),
-// Length (2), MapByte (4), NoMessagePlace (5) and Coefficient (6) that fits, and leaves the buffer as it came.
+// Writes the sheet of a code into a buffer of just its length, 5 × (1 + N + n × N/2) bytes, for any code and any
+// buffer: n, the N map bytes and the n × N/2 coefficients, each on a line of its own. Refuses by the lowest of Layers
+// (1), Length (2), MapByte (4), NoMessagePlace (5) and Coefficient (6) that fits, and leaves the buffer as it came.
 #[tactic(auto, using(refusal::proofs::KindLaws::left_kept, refusal::proofs::KindLaws::left_made), unfolding(crate::specs::CodeSheet::sheet_buffer))]
 pub fn write_sheet(code: &Code, out: &mut [u8]) -> Result<(), Refusal>
     ensures { SheetWritten code.now out.old out.new (number result) }

@@ -44,9 +44,9 @@ fn check(llrs: &[u16], out: &[u8]) -> Result<(), Refusal>
 }
 
 // Writes one place's 64 penalties as a line of a frame file, 64 numbers in four columns each and a line feed, into a
-// buffer of just its 257 bytes, for any penalties and any buffer. Refuses by the lowest that fits of Length (2) for other
-// than 64 penalties or other than 257 bytes, Penalty (8) for a penalty above 31 (Qc = 5) and NoZero (9) for no 0 among
-// them, and leaves the buffer as it came.
+// buffer of just its 257 bytes, for any penalties and any buffer. Refuses by the lowest that fits of Length (2) for
+// other than 64 penalties or other than 257 bytes, Penalty (8) for a penalty above 31 (Qc = 5) and NoZero (9) for no 0
+// among them, and leaves the buffer as it came.
 #[tactic(auto, using(refusal::proofs::KindLaws::left_kept, refusal::proofs::KindLaws::left_made), unfolding(crate::specs::FrameLine::line_buffer))]
 pub fn write_frame_line(llrs: &[u16], line: &mut [u8]) -> Result<(), Refusal>
     ensures { LineWritten llrs.now line.old line.new (number result) }
