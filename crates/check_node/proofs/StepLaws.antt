@@ -16,6 +16,14 @@ by_test : (t : Bool) (a b : ℕ) (P : ℕ → Type 0) → (t ≡ true → P a) �
 by_test true a b P f g = f refl
 by_test false a b P f g = g refl
 
+-- a step, from its test: m is what is held, plus d, and a and b are where m and w stand among signed numbers
+pub step_is : (held d w m a b r : ℕ) → m ≡ (held + d) % 65536 → a ≡ signed_rank m → b ≡ signed_rank w → (a < b → r ≡ m) → (b ≤ a → r ≡ w) → r ≡ step held d w
+unfolding step
+step_is held d w m a b r e ea eb f g =
+    by_test (ltb a b) m w (λ z. r ≡ z) (λ t. f (ltb-true a b t)) (λ t. g (ltb-false a b t))
+    ∙ ap₂ (λ (y z : ℕ). cond (ltb y z) m w) ea eb
+    ∙ ap (λ (z : ℕ). cond (ltb (signed_rank z) (signed_rank w)) z w) e
+
 -- a number of 16 bits
 mod_lt : (n : ℕ) → n % 65536 < 65536
 mod_lt n = omega arith
@@ -116,7 +124,7 @@ pub record LanesMapped (f : ℕ → ℕ → ℕ) (half n : ℕ) (before after : 
   pub other : (b : ℕ) → (b / 32 ≡ half → ⊥) → get_or after b 0 ≡ get_or before b 0
 
 -- a turn: one entry more of each block
-lanes_more : {f : ℕ → ℕ → ℕ} {half n : ℕ} {before after next : List ℕ} → LanesMapped f half n before after → half < 2 → n < 8 → length next ≡ 64
+pub lanes_more : {f : ℕ → ℕ → ℕ} {half n : ℕ} {before after next : List ℕ} → LanesMapped f half n before after → half < 2 → n < 8 → length next ≡ 64
     → ((k : ℕ) → k < 4 → get_or next (32 * half + n + 8 * k) 0 ≡ f (32 * half + n + 8 * k) (get_or before (32 * half + n + 8 * k) 0))
     → ((b : ℕ) → ((k : ℕ) → k < 4 → b ≡ 32 * half + n + 8 * k → ⊥) → get_or next b 0 ≡ get_or after b 0)
     → LanesMapped f half (n + 1) before next

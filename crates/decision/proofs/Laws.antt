@@ -12,7 +12,7 @@ use Rattle.scms.specs.Decision.{smallest}
 use Rattle.scms.proofs.DecisionLaws.{smallest_lt, smallest_least, smallest_first}
 
 -- the first of the 64 values at which the least is found is the smallest whose penalty is least
-smallest_found : {m : ℕ} (v : List ℕ) (b : ℕ) → m ≡ least v → b < 64 → ((k : ℕ) → k < b → get_or v k 0 ≡ m → ⊥) → get_or v b 0 ≡ m → b ≡ smallest v
+pub smallest_found : {m : ℕ} (v : List ℕ) (b : ℕ) → m ≡ least v → b < 64 → ((k : ℕ) → k < b → get_or v k 0 ≡ m → ⊥) → get_or v b 0 ≡ m → b ≡ smallest v
 smallest_found {m} v b e l none here = go (dec_lt b (smallest v)) (dec_lt (smallest v) b)
   where
     -- the smallest value's penalty is the least
@@ -30,7 +30,7 @@ smallest_found {m} v b e l none here = go (dec_lt b (smallest v)) (dec_lt (small
     go (no t) (no u) = omega arith
 
 -- where it is not among the first 63, it is the last
-smallest_last : {m : ℕ} (v : List ℕ) → m ≡ least v → ((k : ℕ) → k < 63 → get_or v k 0 ≡ m → ⊥) → 63 ≡ smallest v
+pub smallest_last : {m : ℕ} (v : List ℕ) → m ≡ least v → ((k : ℕ) → k < 63 → get_or v k 0 ≡ m → ⊥) → 63 ≡ smallest v
 smallest_last {m} v e none = smallest_found v 63 e (omega arith) none (go (least_at v))
   where
     go : (b : ℕ) × (b < 64) × (get_or v b 0 ≡ least v) → get_or v 63 0 ≡ m

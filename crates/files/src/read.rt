@@ -11,13 +11,17 @@ pub(crate) fn open_some<R: Files>(rt: &R, name: &[u8]) -> Option<R::File> {
     fs::open(rt, path).ok()
 }
 
-// Reads until buf is full, the file ends or a read fails, and returns how many bytes were read.
+// Reads until buf is full, the file ends or a read fails, and returns how many bytes were read. No byte is asked for
+// once buf is full.
 fn read_full<F: Read>(file: &mut F, buf: &mut [u8]) -> usize
     ensures { result ≤ length buf.new }
 {
     let size = buf.len();
     let mut rest = buf;
-    while let Ok(got @ 1..) = file.read(rest) {
+    while !rest.is_empty() {
+        let Ok(got @ 1..) = file.read(rest) else {
+            break;
+        };
         rest = &mut rest[got..];
     }
     size - rest.len()

@@ -86,7 +86,7 @@ bits_lt zero x y h = lit< tt
 bits_lt (suc k) x y h = sum_lt (times_a (product_bits k (x / 2) y)) (x % 2 * y) (a_lt (product_bits k (x / 2) y) (bits_lt k (x / 2) y h)) (bit_lt (x % 2) y (last_bit x) h)
 
 -- a partial product with one bit more of the first factor, from what the bits above it gave
-bits_more : (k x y : ℕ) {above r : ℕ} → above ≡ product_bits k (x / 2) y → r ≡ times_a above ⊕ (x % 2 * y) → r ≡ product_bits (suc k) x y
+pub bits_more : (k x y : ℕ) {above r : ℕ} → above ≡ product_bits k (x / 2) y → r ≡ times_a above ⊕ (x % 2 * y) → r ≡ product_bits (suc k) x y
 unfolding product_bits
 bits_more k x y p e = e ∙ ap (λ (q : ℕ). times_a q ⊕ (x % 2 * y)) p
 

@@ -1,11 +1,15 @@
 -- What the rows that judge a code say of it, and the rows of a longer table that go by its sizes.
-use mathlib.Core.List.{List}
+use mathlib.Core.Path.{◌≡◌, ap₂, ◌∙◌}
+use mathlib.Core.List.{List, ◌++◌}
 use Prim.Native.Nat.{ℕ, ◌*◌, ◌/◌, ◌^◌}
 use borrow.Author.Tests.{ne_eqb, eqb-false}
 use lib.ListN.{length}
-use Rattle.refusal.specs.Table.{NoneFits}
+use Rattle.refusal.specs.Table.{Row, refusal_of, NoneFits}
+use Rattle.refusal.proofs.Laws.{same_after}
 use Rattle.refusal.proofs.Within.{inside_within, within_inside, none_within, within_none, false_equal, equal_false}
 use Rattle.polar_code.specs.Code.{Code, message_places, code_table, code_sizes, IsCode}
+use Rattle.polar_code.specs.Sizes.{places_of, kernels_of}
+use Rattle.polar_code.proofs.SizeLaws.{places_are, kernels_are}
 
 module _ (code : Code) where
   -- the number of layers
@@ -44,3 +48,19 @@ module _ (code : Code) where
     within_none 0 1 0 map c.map_bytes,
     (ne_eqb (message_places map) 0 c.some_message, (within_none 1 63 1 cs c.nonzero, tt)),
   )
+
+  -- rows that come after those on the sizes, by the places and the kernels that `place_count` and `kernel_count` give:
+  -- where the row on n is passed, these are the code's
+  pub after_both_sizes : (rest : (places kernels : ℕ) → List Row) {r : ℕ}
+      → r ≡ refusal_of (code_sizes code ++ rest (places_of n) (kernels_of n))
+      → r ≡ refusal_of (code_sizes code ++ rest (2 ^ n) (n * (2 ^ n / 2)))
+  after_both_sizes rest e =
+      e
+      ∙ same_after (code_sizes code) (rest (places_of n) (kernels_of n)) (rest (2 ^ n) (n * (2 ^ n / 2))) (λ none.
+      let few = (inside_within 1 8 n none.0).most in
+      ap₂ (λ (places kernels : ℕ). refusal_of (rest places kernels)) (places_are n few) (kernels_are n few))
+
+  -- and by the places alone
+  pub after_sizes : (rest : ℕ → List Row) {r : ℕ} → r ≡ refusal_of (code_sizes code ++ rest (places_of n))
+      → r ≡ refusal_of (code_sizes code ++ rest (2 ^ n))
+  after_sizes rest = after_both_sizes (λ places kernels. rest places)

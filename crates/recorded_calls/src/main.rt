@@ -21,14 +21,14 @@ mod writing;
 
 use crate::input::{BrokenRecord, Input};
 use crate::run::Run;
-use crate::slices::Buffers;
+use crate::slices::{Buffers, CodeBuffers};
 use std::io::BufRead;
 
 // The most records that a run makes.
 const MOST_RECORDS: usize = 1000000;
 
 impl<R: Print, F: BufRead> Run<'_, R, F> {
-    // Runs the record of the call with this letter.
+    // Runs the record of the call with this letter. One with another letter is read as if a code came first.
     fn record(&mut self, letter: u8) -> Result<(), BrokenRecord> {
         self.input.end_token()?;
         match letter {
@@ -53,13 +53,15 @@ impl<R: Print, F: BufRead> Run<'_, R, F> {
             b'b' => self.least_distance(),
             b'j' => self.shifts_within(),
             b'k' => self.premise_holds(),
-            _ => Err(BrokenRecord),
+            _ => {
+                self.input.code(&mut CodeBuffers::new())?;
+                Err(BrokenRecord::Record)
+            }
         }
     }
 }
 
-// Runs all records. The run ends with the input, at a NUL byte in the place of a letter, and where no blank or line
-// feed follows a record.
+// Runs all records. The run ends with the input, and at a NUL byte in the place of a letter.
 fn main(rt: HostRuntime) {
     let mut run = Run {
         rt: &rt,
@@ -70,11 +72,11 @@ fn main(rt: HostRuntime) {
         let Some(letter) = run.input.next_byte().filter(|letter| *letter != 0) else {
             return;
         };
-        if run.record(letter).is_err() {
+        if let Err(broken) = run.record(letter) {
+            if matches!(broken, BrokenRecord::Token) {
+                run.input.drop_rest();
+            }
             let _ = println!(rt; "record {i} breaks its form");
-            return;
-        }
-        if run.input.end_token().is_err() {
             return;
         }
     }

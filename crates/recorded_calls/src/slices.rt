@@ -60,7 +60,7 @@ impl<F: BufRead> Input<F> {
     // Reads the values of a slice, by the rule with this letter, and puts them there.
     fn put<T: Entry>(&mut self, part: &mut [T], rule: u8) -> Result<(), BrokenRecord> {
         let mut values = [0; LONGEST];
-        let values = values.get_mut(..part.len()).ok_or(BrokenRecord)?;
+        let values = values.get_mut(..part.len()).ok_or(BrokenRecord::Token)?;
         self.read_values(values, rule)?;
         for (entry, value) in part.iter_mut().zip(values) {
             *entry = T::from_value(*value)?;
@@ -74,7 +74,7 @@ impl<F: BufRead> Input<F> {
         buffer: &'a mut [T],
     ) -> Result<&'a mut [T], BrokenRecord> {
         let length: usize = self.number()?;
-        let part = buffer.get_mut(..length).ok_or(BrokenRecord)?;
+        let part = buffer.get_mut(..length).ok_or(BrokenRecord::Token)?;
         let rule = self.letter()?;
         if rule == b'=' {
             self.expect_byte(b';')?;

@@ -75,7 +75,7 @@ impl<F: BufRead> Input<F> {
             b's' => self.drawing()?.fill(values),
             b'v' => self.drawing()?.fill_vectors(values),
             b'x' => self.fill_written(values)?,
-            _ => return Err(BrokenRecord),
+            _ => return Err(BrokenRecord::Token),
         }
         Ok(())
     }
@@ -83,7 +83,7 @@ impl<F: BufRead> Input<F> {
     // Reads a change of an entry, and makes it.
     fn change(&mut self, values: &mut [u64]) -> Result<(), BrokenRecord> {
         let at: usize = self.number()?;
-        *values.get_mut(at).ok_or(BrokenRecord)? = self.number()?;
+        *values.get_mut(at).ok_or(BrokenRecord::Token)? = self.number()?;
         Ok(())
     }
 
@@ -93,10 +93,10 @@ impl<F: BufRead> Input<F> {
             match self.letter()? {
                 b';' => return Ok(()),
                 b'@' => self.change(values)?,
-                _ => return Err(BrokenRecord),
+                _ => return Err(BrokenRecord::Token),
             }
         }
-        Err(BrokenRecord)
+        Err(BrokenRecord::Token)
     }
 
     // Reads the values of all entries of a slice, by the rule with this letter.

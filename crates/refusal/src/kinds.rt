@@ -1,6 +1,7 @@
 // Why a call refuses what it is given.
-ghost use Rattle.std.specs.Prelude.{◌≡◌, true, false, IfErr, OnOk};
+ghost use Rattle.std.specs.Prelude.{◌≡◌, true, false, not, IfErr, OnOk};
 ghost use Rattle.refusal.specs.Kinds.{number_of, number};
+ghost use Rattle.refusal.specs.Walk.{first};
 
 // A refusal: what was wrong with what a call was given. Each has its number in document 01's table 'Refused', or one
 // that a later call added.
@@ -60,10 +61,13 @@ impl From<Refusal> for u8 {
     }
 }
 
-// A row of a table: passes where what the row asks for holds, and else gives its refusal.
+// A row of a table: passes where what the row asks for holds, and else gives its refusal. In numbers it is the step of
+// going down a table by a row, from no refusal on.
+#[tactic(auto, unfolding(crate::specs::Walk::or_else, crate::specs::Walk::first))]
 pub fn require(holds: bool, refusal: Refusal) -> Result<(), Refusal>
     ensures passed { OnOk result (holds ≡ true) }
     ensures refused { IfErr result (λ r. (r ≡ refusal) × (holds ≡ false)) }
+    ensures stepped { number result ≡ first 0 (number_of refusal) (not holds) }
 {
     if holds { Ok(()) } else { Err(refusal) }
 }

@@ -23,11 +23,12 @@ pub(crate) fn spelled_number(text: &[u8]) -> u32
     ((first * 10 + second) * 10 + third) * 10 + fourth
 }
 
-// Whether two slices hold the same bytes.
+// Whether two slices hold the same bytes. They are compared byte by byte where they are short, as here: `==` calls a
+// function for long ones.
 fn is_same(text: &[u8], form: &[u8]) -> bool
     ensures { result ≡ same text.now form.now }
 {
-    text == form
+    text.len() == form.len() && text.iter().zip(form).all(|(a, b)| a == b)
 }
 
 // Whether four bytes are a number in four columns: what is written for the number that they spell.

@@ -1,5 +1,5 @@
 -- The laws of sets of values as numbers.
-use Rattle.std.proofs.Common.{◌≡◌, ℕ, zero, suc, ◌+◌, ◌-◌, ◌*◌, ◌/◌, ◌%◌, ◌^◌, ◌<◌, ◌≤◌, min, sym, refl, ap, ◌∙◌, subst, ap₂, le_of_suc-le-suc, not-suc-le-zero, zero-lt-suc, pow-suc, arith}
+use Rattle.std.proofs.Common.{◌≡◌, ℕ, zero, suc, ◌+◌, ◌-◌, ◌*◌, ◌/◌, ◌%◌, ◌^◌, ◌<◌, ◌≤◌, min, sym, refl, ap, ◌∙◌, subst, ap₂, le_of_suc-le-suc, not-suc-le-zero, zero-lt-suc, pow-suc, arith, pow_mono}
 use native.Mathlib.Nat.{min-eq_left, min-eq_right, zero-add, add-zero, suc-add, mul_assoc, mul_comm, mul-le-mul_left, mul-suc, mod-eq_of_lt}
 use Rattle.std.proofs.Common.{pow-add}
 use native.Mathlib.Decide.{dec_lt}
@@ -77,6 +77,23 @@ mask_more i f e =
     let s = mask_split i 1 f in
     let one : mask_of 1 (λ j. f (i + j)) ≡ f i = ap (λ (x : ℕ). x + 2 * 0) (ap f (add-zero i)) ∙ omega arith in
     let p = ap (λ (x : ℕ). 2 ^ i * x) one in
+    omega arith
+
+-- it has n bits
+pub mask_lt : (n : ℕ) (f : ℕ → ℕ) → Flags f → mask_of n f < 2 ^ n
+unfolding mask_of
+mask_lt zero f h = omega arith
+mask_lt (suc n) f h =
+    let a = mask_lt n (λ i. f (suc i)) (λ i. h (suc i)) in
+    let b = h 0 in
+    let e = pow-suc 2 n in
+    omega arith
+
+-- without the lowest eight of 64 bits it fits in 56
+pub mask_fits : (f : ℕ → ℕ) (n mask : ℕ) → Flags f → n ≤ 56 → mask ≡ mask_of n f → mask < 72057594037927936
+mask_fits f n mask h l e =
+    let a = mask_lt n f h in
+    let b = pow_mono {i = n} {j = 56} l in
     omega arith
 
 -- eight bits more

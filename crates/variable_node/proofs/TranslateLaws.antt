@@ -14,7 +14,7 @@ use Rattle.reorder.specs.Order.{swapped}
 use Rattle.reorder.proofs.SwapLaws.{source_plain, swapped_at, swapped_none, swapped_again}
 
 -- the low bits of a number, one by one: together they are the three low bits
-low_bits_sum : (u : ℕ) → (u / 4 % 2 * 4) ⊕ ((u / 2 % 2 * 2) ⊕ (u % 2)) ≡ u % 8
+pub low_bits_sum : (u : ℕ) → (u / 4 % 2 * 4) ⊕ ((u / 2 % 2 * 2) ⊕ (u % 2)) ≡ u % 8
 unfolding ◌⊕◌
 low_bits_sum u =
     let two : u / 2 % 2 * 2 + u % 2 ≡ u % 4 = omega arith in

@@ -19,12 +19,12 @@ pos (suc n) h = omega arith
 
 module _ (frame : List ℕ) (place : ℕ) where
   -- a slice that isn't whole vectors has no place
-  ragged : (length frame % 64 ≡ 0 → ⊥) → no_place frame place ≡ true
+  pub ragged : (length frame % 64 ≡ 0 → ⊥) → no_place frame place ≡ true
   unfolding no_place
   ragged h = ap (λ (t : Bool). t || leb (length frame / 64) place) (lt-ltb 0 (length frame % 64) (pos (length frame % 64) h))
 
   -- nor is a place beyond it one
-  beyond : length frame / 64 ≤ place → no_place frame place ≡ true
+  pub beyond : length frame / 64 ≤ place → no_place frame place ≡ true
   unfolding no_place
   beyond h = ap (λ (t : Bool). ltb 0 (length frame % 64) || t) (le-leb (length frame / 64) place h) ∙ go (ltb 0 (length frame % 64))
     where
@@ -44,7 +44,7 @@ module _ (frame : List ℕ) (place : ℕ) where
 
   module _ (slice : ℕ × ℕ) where
     -- what is handed out where there is no place: the empty part, from the slice's start on
-    empty_handed : no_place frame place ≡ true → Handed frame slice place [] (slice.0, by_size 2 0 slice.1)
+    pub empty_handed : no_place frame place ≡ true → Handed frame slice place [] (slice.0, by_size 2 0 slice.1)
     unfolding place_llrs part_start
     empty_handed e = record {
       llrs = sym (ap (λ (t : Bool). cond t [] (vector_at frame place)) e);

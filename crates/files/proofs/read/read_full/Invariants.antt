@@ -2,8 +2,8 @@
 use Rattle.std.proofs.Common.{◌≤◌, length}
 use Rattle.files.proofs.read.read_full.Given as goal
 
-abbrev pub invariant-loop-got : goal.invariant-loop-got
-invariant-loop-got g l = length l.rest ≤ l.size
+abbrev pub invariant-loop-file : goal.invariant-loop-file
+invariant-loop-file g l = length l.rest ≤ l.size
 
-abbrev pub decreases-loop-got : goal.decreases-loop-got
-decreases-loop-got g l = length l.rest
+abbrev pub decreases-loop-file : goal.decreases-loop-file
+decreases-loop-file g l = length l.rest
