@@ -118,8 +118,8 @@ impl<F: BufRead> Input<F> {
         }
     }
 
-    // Reads the '.' that ends a record, before its call is made. A record with its '.' is whole: where neither a blank nor
-    // a line feed follows it, the rest of the input is dropped.
+    // Reads the '.' that ends a record, before its call is made. A record with its '.' is whole: where neither a blank
+    // nor a line feed follows it, the rest of the input is dropped.
     pub(crate) fn end_record(&mut self) -> Result<(), BrokenRecord> {
         let byte = self.byte()?;
         if self.end_token().is_err() {
